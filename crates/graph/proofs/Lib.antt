@@ -1,0 +1,4 @@
+-- The lemmas of this crate.
+mod Rings
+mod Columns
+mod Searches

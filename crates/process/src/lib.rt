@@ -1,0 +1,10 @@
+// A stored process: the reader that hands out its records, and the process that is accepted.
+mod bits;
+mod cursor;
+pub mod parts;
+mod reader;
+mod records;
+mod shape;
+pub mod tables;
+
+pub use reader::Reader;

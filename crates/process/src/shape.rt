@@ -1,0 +1,118 @@
+// The last checks of a process: the arrows at each step, and that each step is reached.
+ghost use mathlib.Core.Path.{_≡_};
+ghost use Prim.Native.Nat.{_≤_};
+ghost use lib.ListN.{length};
+ghost use denote.Ref.{now, name};
+ghost use Rattle.graph.specs.Column.{Kept};
+ghost use Rattle.graph.specs.Held.{held};
+ghost use Rattle.graph.specs.Reach.{Least};
+ghost use Rattle.process.specs.Stored.{end-of, ends-at, Leads};
+ghost use Rattle.process.specs.Shape.{better, fine-by, Lowest-unfit, Shaped};
+use crate::parts::Arrow;
+use crate::parts::End;
+use graph::marks::Marks;
+use graph::reach::Graph;
+use graph::reach::reach;
+
+/// The steps of a process as points, with its arrows.
+#[derive(Clone, Copy)]
+pub struct ArrowGraph<'a> {
+    pub steps: usize,
+    pub arrows: &'a [Arrow],
+}
+
+fn end_of(end: End, a: &Arrow) -> u16
+    ensures { λ r. ⌜ r ≡ end-of end (now (a .entry)) ⌝ }
+{
+    match end {
+        End::Tail => a.from,
+        End::Head => a.to,
+    }
+}
+
+/// How many arrows have that end at the step.
+pub fn ends_at(end: End, arrows: &[Arrow], step: usize) -> usize
+    ensures { λ r. ⌜ r ≡ ends-at end (now (arrows .entry)) step ⌝ }
+{
+    let mut n = 0;
+    for a in arrows {
+        if end_of(end, a) as usize == step {
+            n += 1;
+        }
+    }
+    n
+}
+
+/// Whether the arrow leads from `from` to a lower step above `after` than the best so far.
+fn is_better(a: &Arrow, steps: usize, from: usize, after: usize, best: Option<usize>) -> bool
+    ensures { λ r. ⌜ r ≡ better steps from after best (now (a .entry)) ⌝ }
+{
+    let to = a.to as usize;
+    if a.from as usize != from || from < 1 || from > steps || to <= after || to > steps {
+        return false;
+    }
+    match best {
+        None => true,
+        Some(b) => to < b,
+    }
+}
+
+fn least_target(arrows: &[Arrow], steps: usize, from: usize, after: usize) -> Option<usize>
+    ensures { λ r. ⌜ Least (Leads (now (arrows .entry)) steps from) after r ⌝ }
+{
+    let mut best = None;
+    for a in arrows {
+        if is_better(a, steps, from, after, best) {
+            best = Some(a.to as usize);
+        }
+    }
+    best
+}
+
+impl Graph for ArrowGraph<'_> as ArrowsAsGraph {
+    ghost points = { λ g. g .steps };
+
+    ghost arrow = { λ g. Leads (now (g .arrows)) (g .steps) };
+
+    ghost inside = { λ g j k l. (l .from-step, l .to-step) };
+
+    fn size(&self) -> usize {
+        self.steps
+    }
+
+    fn next_target(&self, from: usize, after: usize) -> Option<usize> {
+        least_target(self.arrows, self.steps, from, after)
+    }
+}
+
+fn is_fine(arrows: &[Arrow], marks: &Marks, step: usize) -> bool
+    ensures { λ r. ⌜ r ≡ fine-by (held (now (marks .entry))) (now (arrows .entry)) step ⌝ }
+{
+    ends_at(End::Tail, arrows, step) <= 8 && ends_at(End::Head, arrows, step) <= 8 && marks.is_set(step)
+}
+
+fn lowest_unfit(arrows: &[Arrow], steps: usize, marks: &Marks) -> Option<usize>
+    requires { ⌜ steps ≤ 64 ⌝ }
+    ensures { λ r. ⌜ Lowest-unfit (held (now (marks .entry))) (now (arrows .entry)) steps r ⌝ }
+{
+    for step in 1..steps + 1 {
+        if !is_fine(arrows, marks, step) {
+            return Some(step);
+        }
+    }
+    None
+}
+
+/// The lowest step that has more than 8 arrows out or in or is not reached from step 1.
+pub fn unfit_step(arrows: &[Arrow], steps: usize, marks: &mut Marks, line: &mut [u16]) -> Option<usize>
+    requires steps { ⌜ steps ≤ 64 ⌝ }
+    requires column { ⌜ 257 ≤ length (held (now marks)) ⌝ }
+    requires line { ⌜ 256 ≤ length (now line) ⌝ }
+    ensures shaped { λ r. ⌜ Shaped (now (arrows .entry)) steps r ⌝ }
+    ensures kept { λ _. ⌜ Kept (held (now (marks .entry))) (held (now (marks .exit))) ⌝ }
+    ensures same { λ _. ⌜ name (now (marks .exit) .column) ≡ name (now (marks .entry) .column) ⌝ }
+{
+    let graph = ArrowGraph { steps, arrows };
+    let _ = reach(&graph, &[1], marks, line);
+    lowest_unfit(arrows, steps, marks)
+}
