@@ -3,3 +3,8 @@ pub mod Targets
 pub mod Shapes
 pub mod Checks
 pub mod Rooms
+pub mod Packing
+pub mod Forms
+pub mod Fronts
+pub mod Outcomes
+pub mod Absorbs

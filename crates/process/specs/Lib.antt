@@ -5,3 +5,4 @@ pub mod Items
 pub mod Shape
 pub mod Good
 pub mod Drafts
+pub mod Front

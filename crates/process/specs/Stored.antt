@@ -69,9 +69,13 @@ abbrev pub arrows-form : List Arrow → List ℕ
 arrows-form [] = []
 arrows-form (a ∷ zs) = arrow-form a ++ arrows-form zs
 
--- the stored form: the header, each step with its name, each arrow
+-- a header for so many steps and arrows, each step with its name, each arrow
+abbrev pub form-of : ℕ → ℕ → Plan → List ℕ
+form-of n m p = header-form n m ++ (steps-form (p .steps) ++ arrows-form (p .arrows))
+
+-- the stored form
 abbrev pub stored : Plan → List ℕ
-stored p = header-form (length (p .steps)) (length (p .arrows)) ++ (steps-form (p .steps) ++ arrows-form (p .arrows))
+stored p = form-of (length (p .steps)) (length (p .arrows)) p
 
 -- a name has 1 to 31 bytes
 abbrev pub Nameable : Named → Type 0
@@ -132,12 +136,16 @@ pub record Fine (zs : List Arrow) (n k : ℕ) : Type 0 where
   pub in-few : ends-at Head zs k ≤ 8
   pub reached : Reachable zs n k
 
--- a process that may be stored
-pub record Sound (p : Plan) : Type 0 where
+-- a process that has a stored form
+pub record Formed (p : Plan) : Type 0 where
   pub some-steps : 1 ≤ length (p .steps)
   pub few-steps : length (p .steps) ≤ 64
   pub named : All Nameable (p .steps)
   pub few-arrows : length (p .arrows) ≤ 512
   pub placed : All (Placed (length (p .steps))) (p .arrows)
   pub rising : Rising no-arrow (p .arrows)
+
+-- a sound process: each of its steps is fine too
+pub record Sound (p : Plan) : Type 0 where
+  pub formed : Formed p
   pub fine : (k : ℕ) → Within (length (p .steps)) k → Fine (p .arrows) (length (p .steps)) k
