@@ -1,6 +1,6 @@
 -- Lemmas on the marks of a column.
 use Prim.Native.Nat.{ℕ, _<_, _≤_}
-use mathlib.Core.Path.{_≡_, refl, sym, ap, subst, _∙_}
+use mathlib.Core.Path.{_≡_, sym, ap, subst, _∙_}
 use mathlib.Core.Bool.{Bool, true, false, cond, not, _&&_}
 use mathlib.Core.Logic.{inl, inr}
 use mathlib.Core.List.{List}
@@ -39,8 +39,9 @@ with-mark-below xs k h = rw (lt-ltb k mark-count h)
 -- a mark leaves what follows the marks as it was
 pub kept-set : (xs : List ℕ) (i v : ℕ) → i < mark-count → Kept xs (set xs i v)
 kept-set xs i v h = record {
-    rest = λ k l. getD-set-other xs i k v 0 (λ e. omega arith);
-    size = length-set xs i v }
+  rest = λ k l. getD-set-other xs i k v 0 (λ e. omega arith);
+  size = length-set xs i v;
+}
 
 -- what is kept twice is kept
 pub kept-then : {xs ys zs : List ℕ} → Kept xs ys → Kept ys zs → Kept xs zs
@@ -62,17 +63,19 @@ marked-other xs t k v ne = ap (λ (y : ℕ). ltb k mark-count && not (eqb y 0)) 
 pub marked-set : (xs : List ℕ) (t k : ℕ) → t < mark-count → t < length xs → Marked xs k → Marked (set xs t 1) k
 marked-set xs t k low len m =
     elim (cases-eq k t) [
-      inl e ↦ let P : ℕ → Type 0 = Marked (set xs t 1) in subst P (sym e) (marked-here xs t low len)
-    | inr ne ↦ marked-other xs t k 1 ne ∙ m ]
+      | inl e ↦ let P : ℕ → Type 0 = Marked (set xs t 1) in subst P (sym e) (marked-here xs t low len)
+      | inr ne ↦ marked-other xs t k 1 ne ∙ m
+    ]
 
 -- marks that are 0 or 1 stay so
 pub plain-set : (xs : List ℕ) (t : ℕ) → t < mark-count → t < length xs → Plain xs → Plain (set xs t 1)
 plain-set xs t low len p k h =
     elim (cases-eq k t) [
-      inl e ↦
-        let one : getD (set xs t 1) k 0 ≡ 1 = ap (λ (j : ℕ). getD (set xs t 1) j 0) e ∙ getD-set-same xs t 1 0 len in
-        grind (arith, tells)
-    | inr ne ↦ getD-set-other xs t k 1 0 ne ∙ p k h ∙ ap (λ (b : Bool). cond b 1 0) (sym (marked-other xs t k 1 ne)) ]
+      | inl e ↦
+          let one : getD (set xs t 1) k 0 ≡ 1 = ap (λ (j : ℕ). getD (set xs t 1) j 0) e ∙ getD-set-same xs t 1 0 len in
+          grind (arith, tells)
+      | inr ne ↦ getD-set-other xs t k 1 0 ne ∙ p k h ∙ ap (λ (b : Bool). cond b 1 0) (sym (marked-other xs t k 1 ne))
+    ]
 
 -- in a wiped column no point is marked
 pub unmarked-wiped : {xs ys : List ℕ} (k : ℕ) → Wiped xs ys → marked ys k ≡ false

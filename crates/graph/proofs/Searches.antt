@@ -8,11 +8,11 @@ use lib.Dec.{leb}
 use lib.ListN.{length, getD, set}
 use native.Mathlib.Omega.{arith}
 use Rattle.std.proofs.shelf.Lists.{length-push}
-use Rattle.std.proofs.shelf.Tests.{cases-lt, cases-eq, both-ways, and-from, le-leb}
-use Rattle.graph.proofs.Columns.{kept-set, kept-then, marked-here, marked-other, marked-set, plain-set, unmarked-wiped, plain-wiped}
-use Rattle.graph.specs.Column.{mark-count, covered, marked, Marked, Plain, Kept, Wiped}
+use Rattle.std.proofs.shelf.Tests.{cases-lt, cases-eq, cases-bool, both-ways, cond-true, cond-false, and-parts, leb-true}
+use Rattle.graph.proofs.Columns.{below-count, below-size, kept-set, kept-then, marked-here, marked-other, marked-set, plain-set, unmarked-wiped, plain-wiped}
+use Rattle.graph.specs.Column.{mark-count, covered, marked, Marked, Kept, Wiped}
 use Rattle.graph.specs.Reach.{Within, Start, Reached, start, step, Explored, roomy}
-use Rattle.graph.specs.Search.{In, here, there, unmarked, Taken, old, new, Grown, Search}
+use Rattle.graph.specs.Search.{In, here, there, unmarked, column-with, line-with, Grown, Search}
 
 -- who stood in line stands in it after a push
 pub in-front : {k : ℕ} (xs ys : List ℕ) → In k xs → In k (xs ++ ys)
@@ -50,15 +50,16 @@ pub unmarked-set : (n t : ℕ) (xs : List ℕ) → Within n t → t < mark-count
 unmarked-set zero t xs w low len z = absurd (omega arith)
 unmarked-set (suc n) t xs w low len z =
     elim (cases-eq (suc n) t) [
-      inl e ↦
-        let below : unmarked n (set xs t 1) ≡ unmarked n xs = unmarked-above n t xs (omega arith) in
-        let yes : marked (set xs t 1) (suc n) ≡ true = ap (λ (k : ℕ). marked (set xs t 1) k) e ∙ marked-here xs t low len in
-        let no : marked xs (suc n) ≡ false = ap (λ (k : ℕ). marked xs k) e ∙ z in
-        simp (below, yes, no) (omega arith)
-    | inr ne ↦
-        let below : unmarked n (set xs t 1) + 1 ≡ unmarked n xs = unmarked-set n t xs (w .0, omega arith) low len z in
-        let same : marked (set xs t 1) (suc n) ≡ marked xs (suc n) = marked-other xs t (suc n) 1 ne in
-        simp same (omega arith) ]
+      | inl e ↦
+          let below : unmarked n (set xs t 1) ≡ unmarked n xs = unmarked-above n t xs (omega arith) in
+          let yes : marked (set xs t 1) (suc n) ≡ true = ap (λ (k : ℕ). marked (set xs t 1) k) e ∙ marked-here xs t low len in
+          let no : marked xs (suc n) ≡ false = ap (λ (k : ℕ). marked xs k) e ∙ z in
+          simp (below, yes, no) (omega arith)
+      | inr ne ↦
+          let below : unmarked n (set xs t 1) + 1 ≡ unmarked n xs = unmarked-set n t xs (w .0, omega arith) low len z in
+          let same : marked (set xs t 1) (suc n) ≡ marked xs (suc n) = marked-other xs t (suc n) 1 ne in
+          simp same (omega arith)
+    ]
 
 -- no more points lack a mark than there are
 pub unmarked-most : (n : ℕ) (xs : List ℕ) → unmarked n xs ≤ n
@@ -72,25 +73,27 @@ pub room-left : (n t places : ℕ) (xs ws : List ℕ) → Within n t → t < mar
     length ws + unmarked n xs ≤ places → marked xs t ≡ false → length ws < places
 room-left n t places xs ws w low len r z = let one = unmarked-set n t xs w low len z in omega arith
 
--- a new point is taken in
-pub taken-new : {ys vs : List ℕ} (t : ℕ) (xs ws : List ℕ) → marked xs t ≡ false → ys ≡ set xs t 1 → vs ≡ ws ++ t ∷ [] →
-    Taken t xs ws ys vs
-taken-new {ys = ys} t xs ws z e f =
-    let P : List ℕ → Type 0 = λ y. Taken t xs ws y (ws ++ t ∷ []) in
-    let Q : List ℕ → Type 0 = λ v. Taken t xs ws ys v in
-    subst Q (sym f) (subst P (sym e) (new z))
-
 -- a point that was taken in is marked
-pub taken-marked : {ys vs : List ℕ} (t : ℕ) (xs ws : List ℕ) → t < mark-count → t < length xs → Taken t xs ws ys vs → Marked ys t
-taken-marked t xs ws low len (old m) = m
-taken-marked t xs ws low len (new z) = marked-here xs t low len
+pub taken-marked : {ys : List ℕ} (t : ℕ) (xs : List ℕ) → t < mark-count → t < length xs → ys ≡ column-with xs t → Marked ys t
+taken-marked t xs low len e =
+    let P : List ℕ → Type 0 = λ y. Marked y t in
+    elim (cases-bool (marked xs t)) [
+      | inl m ↦ subst P (sym (e ∙ cond-true (marked xs t) xs (set xs t 1) m)) m
+      | inr z ↦ subst P (sym (e ∙ cond-false (marked xs t) xs (set xs t 1) z)) (marked-here xs t low len)
+    ]
 
 module _ (From : ℕ → Type 0) (n : ℕ) where
   -- no point is taken in
   pub grown-none : (xs ws : List ℕ) → Grown From n xs ws xs ws
   grown-none xs ws = record {
-    keeps = λ k m. m; news = λ k m. inl m; stays = λ k i. i; lines = λ k i. inl i;
-    count = refl; plain = λ p. p; kept = record { rest = λ k h. refl; size = refl } }
+    keeps = λ k m. m;
+    news = λ k m. inl m;
+    stays = λ k i. i;
+    lines = λ k i. inl i;
+    count = refl;
+    plain = λ p. p;
+    kept = record { rest = λ k h. refl; size = refl };
+  }
 
   -- some points are taken in, and then others
   pub grown-then : {xs ws ys vs zs us : List ℕ} → Grown From n xs ws ys vs → Grown From n ys vs zs us → Grown From n xs ws zs us
@@ -101,33 +104,55 @@ module _ (From : ℕ → Type 0) (n : ℕ) where
     lines = λ k i. ⊎-elim (λ j. ⊎-elim inl (λ w. inr (q .keeps k w)) (p .lines k j)) inr (q .lines k i);
     count = q .count ∙ p .count;
     plain = λ h. q .plain (p .plain h);
-    kept = kept-then (p .kept) (q .kept) }
+    kept = kept-then (p .kept) (q .kept);
+  }
 
-  -- one point is taken in
-  pub grown-taken : {ys vs : List ℕ} (t : ℕ) (xs ws : List ℕ) → Within n t → t < mark-count → t < length xs → From t →
-      Taken t xs ws ys vs → Grown From n xs ws ys vs
-  grown-taken t xs ws w low len f (old m) = grown-none xs ws
-  grown-taken t xs ws w low len f (new z) = record {
+  -- the same at an equal column and an equal line
+  pub grown-at : {xs ws ys vs zs us : List ℕ} → zs ≡ ys → us ≡ vs → Grown From n xs ws ys vs → Grown From n xs ws zs us
+  grown-at {xs = xs} {ws = ws} {vs = vs} {zs = zs} e f g =
+      let P : List ℕ → Type 0 = λ y. Grown From n xs ws y vs in
+      let Q : List ℕ → Type 0 = λ v. Grown From n xs ws zs v in
+      subst Q (sym f) (subst P (sym e) g)
+
+  -- a point that is not marked is taken in
+  pub grown-new : (t : ℕ) (xs ws : List ℕ) → Within n t → t < mark-count → t < length xs → From t → marked xs t ≡ false →
+      Grown From n xs ws (set xs t 1) (ws ++ t ∷ [])
+  grown-new t xs ws w low len f z = record {
     keeps = λ k m. marked-set xs t k low len m;
     news = λ k m. elim (cases-eq k t) [
-        inl e ↦ inr (let P : ℕ → Type 0 = λ j. From j × In j (ws ++ t ∷ []) in subst P (sym e) (f, in-last t ws))
-      | inr ne ↦ inl (sym (marked-other xs t k 1 ne) ∙ m) ];
+      | inl e ↦ inr (let P : ℕ → Type 0 = λ j. From j × In j (ws ++ t ∷ []) in subst P (sym e) (f, in-last t ws))
+      | inr ne ↦ inl (sym (marked-other xs t k 1 ne) ∙ m)
+    ];
     stays = λ k i. in-front ws (t ∷ []) i;
     lines = λ k i. ⊎-elim inl
-      (λ e. inr (let P : ℕ → Type 0 = Marked (set xs t 1) in subst P (sym e) (marked-here xs t low len))) (in-push t ws i);
+        (λ e. inr (let P : ℕ → Type 0 = Marked (set xs t 1) in subst P (sym e) (marked-here xs t low len))) (in-push t ws i);
     count = let one = unmarked-set n t xs w low len z in let long = length-push ws t in omega arith;
     plain = plain-set xs t low len;
-    kept = kept-set xs t 1 low }
+    kept = kept-set xs t 1 low;
+  }
+
+  -- a point is taken in
+  pub grown-taken : {ys vs : List ℕ} (t : ℕ) (xs ws : List ℕ) → Within n t → t < mark-count → t < length xs → From t →
+      ys ≡ column-with xs t → vs ≡ line-with xs ws t → Grown From n xs ws ys vs
+  grown-taken t xs ws w low len from e f =
+      let b = marked xs t in
+      elim (cases-bool b) [
+        | inl m ↦ grown-at (e ∙ cond-true b xs (set xs t 1) m) (f ∙ cond-true b ws (ws ++ t ∷ []) m) (grown-none xs ws)
+        | inr z ↦ grown-at (e ∙ cond-false b xs (set xs t 1) z) (f ∙ cond-false b ws (ws ++ t ∷ []) z)
+            (grown-new t xs ws w low len from z)
+      ]
 
 -- all arrows up to the target t are done, once those up to `after` are and t is the next
 pub up-to : (P : ℕ → Type 0) (after t : ℕ) (xs ys : List ℕ) → ((k : ℕ) → Marked xs k → Marked ys k) → Marked ys t →
     ((q : ℕ) → P q → q ≤ after → Marked xs q) → ((k : ℕ) → after < k → k < t → P k → ⊥) → (q : ℕ) → P q → q ≤ t → Marked ys q
 up-to P after t xs ys keeps it below none q a le =
     elim (cases-lt after q) [
-      inr low ↦ keeps q (below q a low)
-    | inl high ↦ elim (cases-eq q t) [
-        inl e ↦ let Q : ℕ → Type 0 = Marked ys in subst Q (sym e) it
-      | inr ne ↦ absurd (none q high (omega arith) a) ] ]
+      | inr low ↦ keeps q (below q a low)
+      | inl high ↦ elim (cases-eq q t) [
+        | inl e ↦ let Q : ℕ → Type 0 = Marked ys in subst Q (sym e) it
+        | inr ne ↦ absurd (none q high (omega arith) a)
+      ]
+    ]
 
 module _ (Arrow : ℕ → ℕ → Type 0) (Starts : ℕ → Type 0) (n : ℕ) where
   -- the starts wait, and nothing else was marked
@@ -139,7 +164,8 @@ module _ (Arrow : ℕ → ℕ → Type 0) (Starts : ℕ → Type 0) (n : ℕ) wh
     lined = λ k i. ⊎-elim (λ j. absurd (in-none j)) (λ m. m) (p .lines k i);
     closed = λ k m. inl (fresh k m .1);
     count = let most = unmarked-most n xs₀ in omega (arith, p .count);
-    plain = p .plain (plain-wiped clean) }
+    plain = p .plain (plain-wiped clean);
+  }
     where
       fresh : (k : ℕ) → Marked xs k → Starts k × In k ws
       fresh k m = ⊎-elim (λ y. absurd (both-ways (marked xs₀ k) (unmarked-wiped k clean) y)) (λ f. f) (p .news k m)
@@ -152,9 +178,10 @@ module _ (Arrow : ℕ → ℕ → Type 0) (Starts : ℕ → Type 0) (n : ℕ) wh
     started = λ k i. g .keeps k (s .started k i);
     lined = λ k i. ⊎-elim (λ j. g .keeps k (s .lined k (there j))) (λ m. m) (g .lines k i);
     closed = λ k m. ⊎-elim (λ y. ⊎-elim (λ i. first k i) (λ c. inr (λ q a. g .keeps q (c q a))) (s .closed k y))
-      (λ f. inl (f .1)) (g .news k m);
+        (λ f. inl (f .1)) (g .news k m);
     count = omega (arith, s .count, g .count);
-    plain = g .plain (s .plain) }
+    plain = g .plain (s .plain);
+  }
     where
       first : (k : ℕ) → In k (p ∷ ws) → In k vs ⊎ ((q : ℕ) → Arrow k q → Marked ys q)
       first _ here = inr all
@@ -163,7 +190,12 @@ module _ (Arrow : ℕ → ℕ → Type 0) (Starts : ℕ → Type 0) (n : ℕ) wh
   -- nobody waits any more: all that is reached is marked
   pub search-done : {before : List ℕ} (xs : List ℕ) → Kept before xs → Search Arrow Starts n xs [] → Explored Arrow Starts before xs
   search-done xs kept s = record {
-    sound = s .sound; whole = all; plain = s .plain; rest = kept .rest; size = kept .size }
+    sound = s .sound;
+    whole = all;
+    plain = s .plain;
+    rest = kept .rest;
+    size = kept .size;
+  }
     where
       all : (k : ℕ) → Reached Arrow Starts k → Marked xs k
       all k (start i) = s .started k i
@@ -192,7 +224,8 @@ starts-marked n starts ys all k s =
     let P : ℕ → Type 0 = λ j. Within n j → Marked ys j in
     subst P (s .1 .1 .1) (all (s .1 .0) (s .1 .1 .0)) (s .0)
 
--- there is room for n points, where there is for a number equal to n
-pub roomy-enough : (m n places bytes : ℕ) → m ≡ n → m ≤ places → covered bytes m ≡ true → roomy n places bytes ≡ true
-roomy-enough m n places bytes e le h =
-    and-from (leb n places) (covered bytes n) (le-leb n places (omega arith)) (ap (λ (k : ℕ). covered bytes k) (sym e) ∙ h)
+-- what room there is
+pub roomy-parts : (n places bytes : ℕ) → true ≡ roomy n places bytes → (n ≤ places) × (n < mark-count) × (n < bytes)
+roomy-parts n places bytes h =
+    let p = and-parts (leb n places) (covered bytes n) (sym h) in
+    (leb-true n places (p .0), below-count bytes n (p .1), below-size bytes n (p .1))

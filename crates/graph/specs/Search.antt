@@ -1,7 +1,7 @@
 -- What holds inside a search, between one point and the next. `xs` is the column, `ws` the points that wait.
 use Prim.Native.Nat.{ℕ, zero, suc, _+_, _≤_}
 use mathlib.Core.Path.{_≡_}
-use mathlib.Core.Bool.{false, cond}
+use mathlib.Core.Bool.{cond}
 use mathlib.Core.Logic.{_⊎_}
 use mathlib.Core.List.{List, [], _∷_, _++_}
 use lib.ListN.{length, set}
@@ -18,10 +18,13 @@ abbrev pub unmarked : ℕ → List ℕ → ℕ
 unmarked zero xs = 0
 unmarked (suc n) xs = unmarked n xs + cond (marked xs (suc n)) 0 1
 
--- what taking in the point t does: nothing to a marked one; another is marked, and waits last
-pub data Taken (t : ℕ) (xs ws : List ℕ) : List ℕ → List ℕ → Type 0 where
-  old : Marked xs t → Taken t xs ws xs ws
-  new : marked xs t ≡ false → Taken t xs ws (set xs t 1) (ws ++ t ∷ [])
+-- the column once the point t is taken in: it is marked, if it was not
+abbrev pub column-with : List ℕ → ℕ → List ℕ
+column-with xs t = cond (marked xs t) xs (set xs t 1)
+
+-- the points that wait then: t waits last, if it was not marked
+abbrev pub line-with : List ℕ → List ℕ → ℕ → List ℕ
+line-with xs ws t = cond (marked xs t) ws (ws ++ t ∷ [])
 
 -- what taking in points that each have From does, in a graph of n points
 pub record Grown (From : ℕ → Type 0) (n : ℕ) (xs ws xs′ ws′ : List ℕ) : Type 0 where

@@ -1,9 +1,9 @@
 //! Marks over lent memory.
 ghost use mathlib.Core.Path.{_≡_};
-ghost use Prim.Native.Nat.{ℕ, _<_, _≤_};
-ghost use lib.ListN.{length};
+ghost use Prim.Native.Nat.{min};
 ghost use denote.Ref.{now};
-ghost use Rattle.graph.specs.Column.{Wiped};
+ghost use Rattle.graph.specs.Column.{mark-count, Wiped};
+
 mod methods;
 
 /// How many bytes of a column are marks.
@@ -25,11 +25,18 @@ impl Drop for Marks<'_> {
     }
 }
 
+/// How many of `len` bytes are marks.
+fn mark_bytes(len: usize) -> usize
+    ensures { λ r. ⌜ r ≡ min mark-count len ⌝ }
+{
+    MARKS.min(len)
+}
+
 /// Sets the marks of `column` to zero.
 fn wipe(column: &mut [u8])
     ensures { λ _. ⌜ Wiped (now (column .entry)) (now (column .exit)) ⌝ }
 {
-    for i in 0..MARKS.min(column.len()) {
+    for i in 0..mark_bytes(column.len()) {
         column[i] = 0;
     }
 }

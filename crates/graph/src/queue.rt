@@ -1,7 +1,8 @@
 //! A queue over lent memory.
-ghost use Prim.Native.Nat.{ℕ, _<_, _≤_};
+ghost use Prim.Native.Nat.{_<_, _≤_};
 ghost use lib.ListN.{length};
 ghost use denote.Ref.{now};
+
 mod methods;
 
 /// A first-in-first-out queue over slots that are lent to it.

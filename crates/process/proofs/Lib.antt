@@ -8,3 +8,5 @@ pub mod Forms
 pub mod Fronts
 pub mod Outcomes
 pub mod Absorbs
+pub mod Answered
+pub mod Drafted

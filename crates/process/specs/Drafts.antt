@@ -7,7 +7,7 @@ use Rattle.std.specs.declared.result.Result.the-variants.{Ok}
 use Rattle.process.specs.declared.parts.Step.{Step}
 use Rattle.process.specs.declared.parts.Arrow.{Arrow}
 use Rattle.process.specs.declared.tables.Draft.{Draft}
-use Rattle.process.specs.Stored.{Named, Plan}
+use Rattle.process.specs.Stored.{Named, Plan, Sound}
 use Rattle.process.specs.Reading.{Record, header, step, arrow, Scan}
 
 -- the steps without their names, and the arrows
@@ -42,4 +42,10 @@ Room-for i d = (vec-len (d .steps) + step-more i ≤ 64) × (vec-len (d .arrows)
 pub record Filled (xs : List ℕ) (d : Draft) : Type 0 where
   pub plan : Plan
   pub scan : Scan xs (Ok plan)
+  pub holds : bare d ≡ bare-plan plan
+
+-- the tables hold a sound process
+pub record Sound-draft (d : Draft) : Type 0 where
+  pub plan : Plan
+  pub sound : Sound plan
   pub holds : bare d ≡ bare-plan plan

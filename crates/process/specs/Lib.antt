@@ -6,3 +6,4 @@ pub mod Shape
 pub mod Good
 pub mod Drafts
 pub mod Front
+pub mod Accepted

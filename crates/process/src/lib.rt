@@ -1,4 +1,5 @@
 // A stored process: the reader that hands out its records, and the process that is accepted.
+mod accepted;
 mod bits;
 mod cursor;
 pub mod parts;
@@ -7,4 +8,5 @@ mod records;
 mod shape;
 pub mod tables;
 
+pub use accepted::Process;
 pub use reader::Reader;

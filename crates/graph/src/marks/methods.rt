@@ -4,7 +4,6 @@ ghost use lib.ListN.{length};
 ghost use denote.Ref.{name};
 ghost use Rattle.graph.specs.Column.{covered, marked, with-mark, Kept, Wiped};
 ghost use Rattle.graph.specs.Held.{held};
-
 use super::MARKS;
 use super::Marks;
 use super::wipe;

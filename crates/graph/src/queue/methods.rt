@@ -2,7 +2,7 @@
 ghost use mathlib.Core.Path.{_≡_};
 ghost use mathlib.Core.Bool.{cond};
 ghost use mathlib.Core.List.{[], _∷_, _++_};
-ghost use Prim.Native.Nat.{ℕ, _+_, _<_};
+ghost use Prim.Native.Nat.{_+_, _<_};
 ghost use lib.ListN.{length};
 ghost use lib.Dec.{ltb, eqb};
 ghost use Rattle.graph.specs.Ring.{Spot};
@@ -10,7 +10,6 @@ ghost use Rattle.graph.specs.Waiting.{waiting, places};
 ghost use Rattle.std.specs.Options.{Cases as BySome};
 ghost use Rattle.std.specs.Results.{isOk};
 ghost use Rattle.std.specs.Vec.{refused};
-
 use super::Queue;
 
 /// The place `count` after `head`, going round at the end of `n` places.
@@ -19,7 +18,11 @@ fn spot(n: usize, head: usize, count: usize) -> usize
     ensures { λ r. ⌜ Spot n (head + count) r ⌝ }
 {
     let ahead = n - head;
-    if count < ahead { head + count } else { count - ahead }
+    if count < ahead {
+        head + count
+    } else {
+        count - ahead
+    }
 }
 
 impl<'a, T: Copy> Queue<'a, T> {
@@ -28,7 +31,11 @@ impl<'a, T: Copy> Queue<'a, T> {
         ensures waiting { λ r. ⌜ waiting r ≡ [] ⌝ }
         ensures places { λ r. ⌜ places r ≡ length (now (slots .entry)) ⌝ }
     {
-        Queue { slots, head: 0, count: 0 }
+        Queue {
+            slots,
+            head: 0,
+            count: 0,
+        }
     }
 
     /// How many elements wait.
@@ -48,7 +55,8 @@ impl<'a, T: Copy> Queue<'a, T> {
     /// Puts `x` last; where no place is free, hands it back.
     pub fn push(&mut self, x: T) -> Result<(), T>
         ensures test { λ r. ⌜ isOk r ≡ ltb (length (waiting (now (self .entry)))) (places (now (self .entry))) ⌝ }
-        ensures waiting { λ r. ⌜ waiting (now (self .exit)) ≡ cond (isOk r) (waiting (now (self .entry)) ++ x ∷ []) (waiting (now (self .entry))) ⌝ }
+        ensures waiting { λ r. ⌜ waiting (now (self .exit))
+            ≡ cond (isOk r) (waiting (now (self .entry)) ++ x ∷ []) (waiting (now (self .entry))) ⌝ }
         ensures refused { λ r. ⌜ refused r (λ y. y ≡ x) ⌝ }
         ensures places { λ _. ⌜ places (now (self .exit)) ≡ places (now (self .entry)) ⌝ }
     {
@@ -64,7 +72,9 @@ impl<'a, T: Copy> Queue<'a, T> {
 
     /// Takes the first.
     pub fn pop(&mut self) -> Option<T>
-        ensures waiting { λ r. ⌜ BySome r ((waiting (now (self .entry)) ≡ []) × (waiting (now (self .exit)) ≡ [])) (λ x. waiting (now (self .entry)) ≡ x ∷ waiting (now (self .exit))) ⌝ }
+        ensures waiting { λ r. ⌜ BySome r
+            ((waiting (now (self .entry)) ≡ []) × (waiting (now (self .exit)) ≡ []))
+            (λ x. waiting (now (self .entry)) ≡ x ∷ waiting (now (self .exit))) ⌝ }
         ensures places { λ _. ⌜ places (now (self .exit)) ≡ places (now (self .entry)) ⌝ }
     {
         if self.count == 0 {

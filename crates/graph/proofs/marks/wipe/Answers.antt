@@ -12,16 +12,19 @@ pub loop-i-again : need.loop-i-again
 loop-i-again c =
     let i = c .loop-i .i in
     let xs = c .loop-i .column in
-    let lt : i < length xs = omega arith in
-    (below-more _ _ (λ k h. let ne : k ≢ i = omega arith in rw getD-set-other (c .loop-i .inv .0 k h)) (rw getD-set-same),
-     λ k h. getD-set-other xs i k 0 0 (λ z. omega arith) ∙ c .loop-i .inv .1 k h)
+    let lt : i < length xs = omega arith in (
+      below-more _ _ (λ k h. let ne : k ≢ i = omega arith in rw getD-set-other (c .loop-i .inv .0 k h)) (rw getD-set-same),
+      λ k h. getD-set-other xs i k 0 0 (λ z. omega arith) ∙ c .loop-i .inv .1 k h,
+    )
 
 pub returns : need.returns
 returns c =
     let xs = c .loop-i .column in
     record {
       zeros = λ k h. elim (cases-lt k (c .loop-i .i)) [
-          inl low ↦ c .loop-i .inv .0 k low
-        | inr high ↦ getD-past xs k 0 (omega arith) ];
+        | inl low ↦ c .loop-i .inv .0 k low
+        | inr high ↦ getD-past xs k 0 (omega arith)
+      ];
       rest = c .loop-i .inv .1;
-      size = c .loop-i .kept .column }
+      size = c .loop-i .kept .column;
+    }

@@ -1,5 +1,5 @@
-use Prim.Native.Nat.{ℕ, _<_, _≤_, _+_}
-use mathlib.Core.Path.{_≡_, refl, ap, _∙_}
+use Prim.Native.Nat.{_<_, _≤_, _+_}
+use mathlib.Core.Path.{_∙_}
 use mathlib.Core.Logic.{inl, inr}
 use native.Mathlib.Omega.{arith}
 use lib.ListN.{length}
@@ -21,7 +21,7 @@ admit-requires g c κs =
     let low : t < mark-count = omega (arith, w .1, c .pre .few) in
     let len : t < length xs = omega (arith, w .1, c .pre .wide, c .loop-t .inv .0 .kept .size) in
     let sum : length (waiting (c .loop-t .queue)) + unmarked n xs ≤ places (c .loop-t .queue) =
-      omega (arith, c .loop-t .inv .0 .count, c .loop-t .inv .2, c .pre .room) in
+    omega (arith, c .loop-t .inv .0 .count, c .loop-t .inv .2, c .pre .room) in
     record { low = low; room = room-left n t (places (c .loop-t .queue)) xs (waiting (c .loop-t .queue)) w low len sum }
 
 pub loop-t-again : need.loop-t-again
@@ -34,21 +34,24 @@ loop-t-again g c =
     let w : Within n t = m .inside (c .args .g .now) (c .args .p) t (least .1) .1 in
     let low : t < mark-count = omega (arith, w .1, c .pre .few) in
     let len : t < length xs = omega (arith, w .1, c .pre .wide, c .loop-t .inv .0 .kept .size) in
-    let taken = c .admit .ensures .taken in
-    let more = grown-taken (m .arrow (c .args .g .now) (c .args .p)) n t xs (waiting (c .loop-t .queue)) w low len (least .1) taken in
-    let it = taken-marked t xs (waiting (c .loop-t .queue)) low len taken in
-    (grown-then _ n (c .loop-t .inv .0) more,
-     up-to (m .arrow (c .args .g .now) (c .args .p)) (c .loop-t .after) t xs (held (c .admit .last .marks))
-       (more .keeps) it (c .loop-t .inv .1) (least .2),
-     c .admit .ensures .places ∙ c .loop-t .inv .2,
-     c .admit .ensures .same ∙ c .loop-t .inv .3)
+    let more = grown-taken (m .arrow (c .args .g .now) (c .args .p)) n t xs (waiting (c .loop-t .queue)) w low len (least .1)
+    (c .admit .ensures .column) (c .admit .ensures .waiting) in
+    let it = taken-marked t xs low len (c .admit .ensures .column) in (
+      grown-then _ n (c .loop-t .inv .0) more,
+      up-to (m .arrow (c .args .g .now) (c .args .p)) (c .loop-t .after) t xs (held (c .admit .last .marks))
+          (more .keeps) it (c .loop-t .inv .1) (least .2),
+      c .admit .ensures .places ∙ c .loop-t .inv .2,
+      c .admit .ensures .same ∙ c .loop-t .inv .3,
+    )
 
 pub returns : need.returns
 returns g c =
     record {
       grown = c .loop-t .inv .0;
       all = λ q a. elim (cases-lt (c .loop-t .after) q) [
-          inr low ↦ c .loop-t .inv .1 q a low
-        | inl high ↦ absurd (c .in-rest .ensures tt q high a) ];
+        | inr low ↦ c .loop-t .inv .1 q a low
+        | inl high ↦ absurd (c .in-rest .ensures tt q high a)
+      ];
       places = c .loop-t .inv .2;
-      same = c .loop-t .inv .3 }
+      same = c .loop-t .inv .3;
+    }

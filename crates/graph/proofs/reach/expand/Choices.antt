@@ -12,7 +12,7 @@ abbrev pub Inv-loop-t : given.InvT-loop-t
 Inv-loop-t g l =
     let m = g .G·Graph in
     Grown (m .arrow (l .g) (l .p)) (m .points (l .g))
-      (held (l .entry .marks)) (waiting (l .entry .queue)) (held (l .marks)) (waiting (l .queue))
+    (held (l .entry .marks)) (waiting (l .entry .queue)) (held (l .marks)) (waiting (l .queue))
     × ((q : ℕ) → m .arrow (l .g) (l .p) q → q ≤ l .after → Marked (held (l .marks)) q)
     × (places (l .queue) ≡ places (l .entry .queue))
     × (name (l .marks .column) ≡ name (l .entry .marks .column))

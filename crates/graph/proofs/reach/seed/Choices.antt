@@ -13,7 +13,7 @@ use Rattle.graph.proofs.reach.seed.Given as given
 abbrev pub Inv-loop-s : given.InvT-loop-s
 Inv-loop-s l =
     Grown (Start (l .points) (l .starts)) (l .points)
-      (held (l .entry .marks)) (waiting (l .entry .queue)) (held (l .marks)) (waiting (l .queue))
+    (held (l .entry .marks)) (waiting (l .entry .queue)) (held (l .marks)) (waiting (l .queue))
     × ((i : ℕ) → i < l .s-index → Within (l .points) (getD (l .starts) i 0) → Marked (held (l .marks)) (getD (l .starts) i 0))
     × (places (l .queue) ≡ places (l .entry .queue))
     × (name (l .marks .column) ≡ name (l .entry .marks .column))

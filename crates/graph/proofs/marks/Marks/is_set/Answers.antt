@@ -1,5 +1,4 @@
 use mathlib.Core.Path.{sym}
-use Rattle.std.proofs.shelf.Tests.{and-parts}
 use Rattle.graph.proofs.Columns.{marked-uncovered, marked-covered}
 use Rattle.graph.proofs.marks.Marks.is_set.Needs as need
 

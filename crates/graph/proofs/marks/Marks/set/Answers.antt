@@ -5,9 +5,10 @@ use Rattle.graph.proofs.marks.Marks.set.Needs as need
 
 pub returns-then-not-covers : need.returns-then-not-covers
 returns-then-not-covers c = record {
-    after = sym (with-mark-uncovered (c .args .self .now .column .now) (c .args .i) (sym (c .if-not-covers .ensures tt)));
-    kept = record { rest = λ k h. refl; size = refl };
-    same = refl }
+  after = sym (with-mark-uncovered (c .args .self .now .column .now) (c .args .i) (sym (c .if-not-covers .ensures tt)));
+  kept = record { rest = λ k h. refl; size = refl };
+  same = refl;
+}
 
 pub returns : need.returns
 returns c =
@@ -16,4 +17,5 @@ returns c =
     record {
       after = sym (with-mark-below xs (c .args .i) low);
       kept = kept-set xs (c .args .i) 1 low;
-      same = refl }
+      same = refl;
+    }

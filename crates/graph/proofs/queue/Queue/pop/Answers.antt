@@ -12,9 +12,13 @@ returns g c =
     let q = c .args .self .now in
     let pos : 0 < q .count = omega arith in
     let to : Next (length (q .slots .now)) (q .head) (c .if-self-n .self) =
-      record { is = elim (c .if-self-n .came) [
-          then-self-n w ↦ inl (w .self-is, w .if-self-n .taken)
-        | else-self-n w ↦ inr (w .self-is, w .if-self-n .left) ] } in
+    record {
+      is = elim (c .if-self-n .came) [
+        | then-self-n w ↦ inl (w .self-is, w .if-self-n .taken)
+        | else-self-n w ↦ inr (w .self-is, w .if-self-n .left)
+      ];
+    } in
     record {
       waiting = ring-next (q .slots .now) (q .head) (q .count) (c .if-self-n .self) (c .index-self-self .result) (sound q) pos to;
-      places = search needs }
+      places = search needs;
+    }

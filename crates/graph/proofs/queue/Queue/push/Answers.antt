@@ -19,4 +19,5 @@ returns g c =
       test = search needs;
       waiting = ring-push (q .slots .now) (q .head) (q .count) (c .spot-place .result) (c .args .x) (sound q) free (c .spot-place .ensures);
       refused = search needs;
-      places = search needs }
+      places = search needs;
+    }
