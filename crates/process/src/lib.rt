@@ -9,4 +9,5 @@ mod shape;
 pub mod tables;
 
 pub use accepted::Process;
+pub use accepted::read::read;
 pub use reader::Reader;
