@@ -38,7 +38,7 @@ next-by e xs c g =
 
 -- the header of n steps and m arrows
 header-absorbed : (n m : ℕ) (xs : List ℕ) → 1 ≤ n → n ≤ 64 → m ≤ 512
-  → next (header-form n m ++ xs) start
+    → next (header-form n m ++ xs) start
     ≡ Ok (record { said = Some (header n m); rest = xs; cursor = cursor-after n m no-plan })
 header-absorbed n m xs lo hi few =
     let ys = header-form n m ++ xs in
@@ -53,10 +53,11 @@ header-absorbed n m xs lo hi few =
       spare-is = at 3;
       some-steps = subst (λ (k : ℕ). 1 ≤ k) (sym n-is) lo;
       few-steps = subst (λ (k : ℕ). k ≤ 64) (sym n-is) hi;
-      few-arrows = subst (λ (k : ℕ). k ≤ 512) (sym m-is) few } in
+      few-arrows = subst (λ (k : ℕ). k ≤ 512) (sym m-is) few;
+    } in
     let cursor : moved HeaderRecord ys start ≡ cursor-after n m no-plan =
-      ap₂ (λ (j k : ℕ). record { place = 4; begun = true; steps = j; «steps_left» = j; «arrows_left» = k; last = no-arrow }) n-is m-is
-      ∙ sym (header-cursor n m) in
+    ap₂ (λ (j k : ℕ). record { place = 4; begun = true; steps = j; «steps_left» = j; «arrows_left» = k; last = no-arrow }) n-is m-is
+    ∙ sym (header-cursor n m) in
     next-by HeaderRecord ys start g
     ∙ λ i. Ok (record { said = Some (header (n-is i) (m-is i)); rest = xs; cursor = cursor i })
 
@@ -70,11 +71,12 @@ kind-low Fee = omega arith
 module _ (n m : ℕ) (p : Plan) where
   -- one step more of n
   step-absorbed : (s : Named) (xs : List ℕ) → Nameable s → length (p .steps) < n
-    → next (step-form s ++ xs) (cursor-after n m p)
+      → next (step-form s ++ xs) (cursor-after n m p)
       ≡ Ok (record {
         said = Some (step s (cursor-after n m p .place + 2));
         rest = xs;
-        cursor = cursor-after n m (with-record p (step s (cursor-after n m p .place + 2))) })
+        cursor = cursor-after n m (with-record p (step s (cursor-after n m p .place + 2)));
+      })
   step-absorbed s xs named less =
       let c = cursor-after n m p in
       let ys = step-form s ++ xs in
@@ -89,7 +91,8 @@ module _ (n m : ℕ) (p : Plan) where
         long = long-by (length xs) size-is (length-append (step-form s) xs);
         spare-is = at 7;
         kind-low = subst (λ (k : ℕ). k ≤ 1) (sym (at 5)) (kind-low (s .step .kind));
-        some-name = subst (λ (k : ℕ). 1 ≤ k) (sym len) (named .0) } in
+        some-name = subst (λ (k : ℕ). 1 ≤ k) (sym len) (named .0);
+      } in
       let said = step-read s xs short in
       let rest : drop (2 + name-length ys) ys ≡ xs = drop-at (step-form s) xs (2 + name-length ys) size-is in
       let cursor = step-cursor n m p s (c .place + 2) ys len in
@@ -98,8 +101,8 @@ module _ (n m : ℕ) (p : Plan) where
 
   -- one arrow more of m
   arrow-absorbed : (a : Arrow) (xs : List ℕ) → Placed n a → Before (last-of no-arrow (p .arrows)) a → n ≤ 64
-    → length (p .steps) ≡ n → length (p .arrows) < m
-    → next (arrow-form a ++ xs) (cursor-after n m p)
+      → length (p .steps) ≡ n → length (p .arrows) < m
+      → next (arrow-form a ++ xs) (cursor-after n m p)
       ≡ Ok (record { said = Some (arrow a); rest = xs; cursor = cursor-after n m (with-record p (arrow a)) })
   arrow-absorbed a xs placed rises few full less =
       let c = cursor-after n m p in
@@ -118,7 +121,8 @@ module _ (n m : ℕ) (p : Plan) where
         from-high = subst (λ (x : Arrow). x .from ≤ n) (sym is) fh;
         to-high = subst (λ (x : Arrow). x .to ≤ n) (sym is) th;
         to-low = subst (λ (x : Arrow). x .to ≡ 1 → ⊥) (sym is) (λ e. omega arith);
-        rising = subst (λ (x : Arrow). Before (c .last) x) (sym is) rises } in
+        rising = subst (λ (x : Arrow). Before (c .last) x) (sym is) rises;
+      } in
       let cursor = arrow-cursor n m p a ys is in
       next-by ArrowRecord ys c g
       ∙ λ i. Ok (record { said = Some (arrow (is i)); rest = xs; cursor = cursor i })
@@ -136,20 +140,20 @@ module _ (n m : ℕ) (rest : List ℕ) (r : Result Plan Fault) where
   Goes-on xs p = Scans xs (cursor-after n m p) p r
 
   steps-absorbed : (ss : List Named) (p : Plan) → All Nameable ss → length (p .steps) + length ss ≤ n
-    → Goes-on rest (with-steps p ss) → Goes-on (steps-form ss ++ rest) p
+      → Goes-on rest (with-steps p ss) → Goes-on (steps-form ss ++ rest) p
   steps-absorbed [] p named fits go =
       subst (λ (ts : List Named). Goes-on rest (record { steps = ts; arrows = p .arrows })) (append-nil (p .steps)) go
   steps-absorbed (s ∷ ss) p named fits go =
       let q : Plan = record { steps = p .steps ++ s ∷ []; arrows = p .arrows } in
       let regroup : p .steps ++ s ∷ ss ≡ q .steps ++ ss = sym (append-assoc (p .steps) (s ∷ []) ss) in
       let later = steps-absorbed ss q (named .1) (omega (arith, length-push (p .steps) s))
-        (subst (λ (ts : List Named). Goes-on rest (record { steps = ts; arrows = p .arrows })) regroup go) in
+      (subst (λ (ts : List Named). Goes-on rest (record { steps = ts; arrows = p .arrows })) regroup go) in
       subst (λ (xs : List ℕ). Goes-on xs p) (sym (append-assoc (step-form s) (steps-form ss) rest))
       (more (step-absorbed n m p s (steps-form ss ++ rest) (named .0) (omega arith)) later)
 
   arrows-absorbed : (zs : List Arrow) (p : Plan) → All (Placed n) zs → Rising (last-of no-arrow (p .arrows)) zs → n ≤ 64
-    → length (p .steps) ≡ n → length (p .arrows) + length zs ≤ m
-    → Goes-on rest (with-arrows p zs) → Goes-on (arrows-form zs ++ rest) p
+      → length (p .steps) ≡ n → length (p .arrows) + length zs ≤ m
+      → Goes-on rest (with-arrows p zs) → Goes-on (arrows-form zs ++ rest) p
   arrows-absorbed [] p placed rises few full fits go =
       subst (λ (ts : List Arrow). Goes-on rest (record { steps = p .steps; arrows = ts })) (append-nil (p .arrows)) go
   arrows-absorbed (a ∷ zs) p placed rises few full fits go =
@@ -157,7 +161,7 @@ module _ (n m : ℕ) (rest : List ℕ) (r : Result Plan Fault) where
       let regroup : p .arrows ++ a ∷ zs ≡ q .arrows ++ zs = sym (append-assoc (p .arrows) (a ∷ []) zs) in
       let rises-on = subst (λ (x : Arrow). Rising x zs) (sym (last-push no-arrow (p .arrows) a)) (rises .1) in
       let later = arrows-absorbed zs q (placed .1) rises-on few full (omega (arith, length-push (p .arrows) a))
-        (subst (λ (ts : List Arrow). Goes-on rest (record { steps = p .steps; arrows = ts })) regroup go) in
+      (subst (λ (ts : List Arrow). Goes-on rest (record { steps = p .steps; arrows = ts })) regroup go) in
       subst (λ (xs : List ℕ). Goes-on xs p) (sym (append-assoc (arrow-form a) (arrows-form zs) rest))
       (more (arrow-absorbed n m p a (arrows-form zs ++ rest) (placed .0) (rises .0) few full (omega arith)) later)
 
@@ -166,15 +170,15 @@ module _ (n m : ℕ) (rest : List ℕ) (r : Result Plan Fault) where
   arrows-after p s go =
       ⊎-elim
       (λ less. let none = s .steps-first less in
-        subst (λ (zs : List Arrow). Goes-on (arrows-form zs ++ rest) (record { steps = p .steps; arrows = [] })) (sym none)
-        (subst (λ (zs : List Arrow). Goes-on rest (record { steps = p .steps; arrows = zs })) none go))
+      subst (λ (zs : List Arrow). Goes-on (arrows-form zs ++ rest) (record { steps = p .steps; arrows = [] })) (sym none)
+      (subst (λ (zs : List Arrow). Goes-on rest (record { steps = p .steps; arrows = zs })) none go))
       (λ all. arrows-absorbed (p .arrows) (record { steps = p .steps; arrows = [] }) (s .placed) (s .rising) (s .few-steps)
-        (omega (arith, s .steps-in)) (omega (arith, s .arrows-in)) go)
+      (omega (arith, s .steps-in)) (omega (arith, s .arrows-in)) go)
       (cases-lt (length (p .steps)) n)
 
 -- where bytes begin with the stored form of good records, the scan comes to what is left
 pub front-scan : (xs : List ℕ) {rest : List ℕ} {c : Cursor} {p : Plan} {r : Result Plan Fault}
-  → Front xs rest c p → Scans rest c p r → Scan xs r
+    → Front xs rest c p → Scans rest c p r → Scan xs r
 front-scan xs nothing-read go = go
 front-scan xs {rest = rest} {p = p} {r = r} (read-so-far n m s e) go =
     let sf = steps-form (p .steps) in
@@ -183,7 +187,7 @@ front-scan xs {rest = rest} {p = p} {r = r} (read-so-far n m s e) go =
     let arrows = arrows-after n m rest r p s go in
     let steps = steps-absorbed n m (zf ++ rest) r (p .steps) no-plan (s .named) (omega (arith, s .steps-in)) arrows in
     let whole : Scan (head ++ (sf ++ (zf ++ rest))) r =
-      more (header-absorbed n m (sf ++ (zf ++ rest)) (s .some-steps) (s .few-steps) (s .few-arrows)) steps in
+    more (header-absorbed n m (sf ++ (zf ++ rest)) (s .some-steps) (s .few-steps) (s .few-arrows)) steps in
     let regroup : head ++ (sf ++ (zf ++ rest)) ≡ xs =
-      ap (λ (ys : List ℕ). head ++ ys) (sym (append-assoc sf zf rest)) ∙ sym (append-assoc head (sf ++ zf) rest) ∙ sym e in
+    ap (λ (ys : List ℕ). head ++ ys) (sym (append-assoc sf zf rest)) ∙ sym (append-assoc head (sf ++ zf) rest) ∙ sym e in
     subst (λ (ys : List ℕ). Scan ys r) regroup whole

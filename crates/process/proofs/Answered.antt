@@ -55,7 +55,8 @@ stored-scan xs p f e =
       steps-first = λ less. absurd (omega arith);
       named = f .named;
       placed = f .placed;
-      rising = f .rising } in
+      rising = f .rising;
+    } in
     let good : Good-end [] c = record { begun = refl; no-step = omega arith; no-arrow-left = omega arith; none-left = refl } in
     let front : Front xs [] c p = read-so-far n m so (e ∙ sym (append-nil (stored p))) in
     front-scan xs front (ended (next-by NoRecord [] c good))
@@ -64,13 +65,14 @@ stored-scan xs p f e =
 unfit-same : {zs : List Arrow} {n j k : ℕ} → First-unfit zs n j → First-unfit zs n k → j ≡ k
 unfit-same {j = j} {k = k} u v =
     elim (cases-order j k) [
-      inl e ↦ e
-    | inr (inl less) ↦ absurd (u .not-fine (v .below-fine j (u .step-of .0) less))
-    | inr (inr more) ↦ absurd (v .not-fine (u .below-fine k (v .step-of .0) more)) ]
+      | inl e ↦ e
+      | inr (inl less) ↦ absurd (u .not-fine (v .below-fine j (u .step-of .0) less))
+      | inr (inr more) ↦ absurd (v .not-fine (u .below-fine k (v .step-of .0) more))
+    ]
 
 -- a process with a step that is not fine is not one whose steps all are
 not-both : {p q : Plan} {k : ℕ} → p ≡ q → First-unfit (p .arrows) (length (p .steps)) k
-  → ((j : ℕ) → Within (length (q .steps)) j → Fine (q .arrows) (length (q .steps)) j) → ⊥
+    → ((j : ℕ) → Within (length (q .steps)) j → Fine (q .arrows) (length (q .steps)) j) → ⊥
 not-both {k = k} e u all =
     let v = subst (λ (x : Plan). First-unfit (x .arrows) (length (x .steps)) k) e u in
     v .not-fine (all k (v .step-of))
@@ -118,14 +120,15 @@ Told (Err g) (Ok p) = ⊥
 Told (Err g) (Err f) = g ≡ f
 
 pub reading-from : (xs : List ℕ) (r : Result Process Fault) (a : Result Plan Fault) → Bytes xs → Answer xs a → Told r a
-  → Reading xs r
+    → Reading xs r
 reading-from xs (Ok q) (Ok p) b ans told =
     let w = answer-says b ans in
     record {
       accepted = record { plan = p; sound = w .0; bytes = w .1; holds = told };
       gives-back = λ o s e. told ∙ ap bare-plan (plan-same (answer-same ans (sound-answer xs o s e)));
       declined = tt;
-      faults = λ f h. absurd (plan-not-fault (answer-same ans (fault-answer h))) }
+      faults = λ f h. absurd (plan-not-fault (answer-same ans (fault-answer h)));
+    }
 reading-from xs (Ok q) (Err f) b ans told = absurd told
 reading-from xs (Err g) (Ok p) b ans told = absurd told
 reading-from xs (Err g) (Err f) b ans told =
@@ -133,4 +136,5 @@ reading-from xs (Err g) (Err f) b ans told =
       accepted = tt;
       gives-back = λ o s e. plan-not-fault (answer-same (sound-answer xs o s e) ans);
       declined = subst (First-fault xs) (sym told) (answer-says b ans);
-      faults = λ h first. ap (λ (x : Fault). Err x) (told ∙ fault-same (answer-same ans (fault-answer first))) }
+      faults = λ h first. ap (λ (x : Fault). Err x) (told ∙ fault-same (answer-same ans (fault-answer first)));
+    }

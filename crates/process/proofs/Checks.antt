@@ -28,14 +28,14 @@ check b f = cond b (Some f) None
 
 -- none of the checks stands if no test says so, and the other way round
 none-stands : (a b d : Bool) (f g h : Fault) → firstOf (check a f ∷ check b g ∷ check d h ∷ []) ≡ None
-  → (a ≡ false) × (b ≡ false) × (d ≡ false)
+    → (a ≡ false) × (b ≡ false) × (d ≡ false)
 none-stands true b d f g h e = let z : _≡_ {A = ℕ} 0 1 = cc in absurd (omega arith)
 none-stands false true d f g h e = let z : _≡_ {A = ℕ} 0 1 = cc in absurd (omega arith)
 none-stands false false true f g h e = let z : _≡_ {A = ℕ} 0 1 = cc in absurd (omega arith)
 none-stands false false false f g h e = (refl, refl, refl)
 
 all-pass : {a b d : Bool} (f g h : Fault) → a ≡ false → b ≡ false → d ≡ false
-  → firstOf (check a f ∷ check b g ∷ check d h ∷ []) ≡ None
+    → firstOf (check a f ∷ check b g ∷ check d h ∷ []) ≡ None
 all-pass f g h p q r i = firstOf (check (p i) f ∷ check (q i) g ∷ check (r i) h ∷ [])
 
 none-stands-one : (b : Bool) (f : Fault) → firstOf (check b f ∷ []) ≡ None → b ≡ false
@@ -62,14 +62,14 @@ short-by : (m n : ℕ) → 2 + m ≤ n → 2 ≤ n
 short-by m n h = omega arith
 
 -- the order of arrows as a test and as a fact
-before-true : (a b : Arrow) → before a b ≡ true → Before a b
+pub before-true : (a b : Arrow) → before a b ≡ true → Before a b
 before-true a b e =
     ⊎-elim (λ l. inl (ltb-true (a .from) (b .from) l))
     (λ r. let p = and-parts (eqb (a .from) (b .from)) (ltb (a .to) (b .to)) r in
-      inr (eqb-true (a .from) (b .from) (p .0), ltb-true (a .to) (b .to) (p .1)))
+    inr (eqb-true (a .from) (b .from) (p .0), ltb-true (a .to) (b .to) (p .1)))
     (or-cases (ltb (a .from) (b .from)) (eqb (a .from) (b .from) && ltb (a .to) (b .to)) e)
 
-before-holds : (a b : Arrow) → Before a b → before a b ≡ true
+pub before-holds : (a b : Arrow) → Before a b → before a b ≡ true
 before-holds a b (inl l) = or-left (ltb (a .from) (b .from)) _ (lt-ltb (a .from) (b .from) l)
 before-holds a b (inr r) =
     or-right (ltb (a .from) (b .from)) _
@@ -118,7 +118,8 @@ module _ (xs : List ℕ) (c : Cursor) where
         spare-is = zero-if (header-at xs 3) spare;
         some-steps = one-if (header-at xs 1) some;
         few-steps = ltb-false 64 (header-at xs 1) (few .0);
-        few-arrows = ltb-false 512 (header-at xs 2) (few .1) }
+        few-arrows = ltb-false 512 (header-at xs 2) (few .1);
+      }
   good-from StepRecord e h =
       let w = none-stands _ _ _ _ _ _ h in
       let long = or-parts (ltb (length xs) 2) (ltb (length xs) (2 + name-length xs)) (w .0) in
@@ -129,7 +130,8 @@ module _ (xs : List ℕ) (c : Cursor) where
         long = ltb-false (length xs) (2 + name-length xs) (long .1);
         spare-is = zero-if (step-at xs 7) (ltb-false 0 (step-at xs 7) (w .1));
         kind-low = ltb-false 1 (step-at xs 5) (values .0);
-        some-name = one-if (name-length xs) (eqb-false (name-length xs) 0 (values .1)) }
+        some-name = one-if (name-length xs) (eqb-false (name-length xs) 0 (values .1));
+      }
   good-from ArrowRecord e h =
       let a = read-arrow xs in
       let w = none-stands _ _ _ _ _ _ h in
@@ -146,40 +148,45 @@ module _ (xs : List ℕ) (c : Cursor) where
         from-high = ltb-false (c .steps) (a .from) (from .0);
         to-high = ltb-false (c .steps) (a .to) (to .0);
         to-low = eqb-false (a .to) 1 (order .0);
-        rising = before-true (c .last) a (not-false (before (c .last) a) (order .1)) }
+        rising = before-true (c .last) a (not-false (before (c .last) a) (order .1));
+      }
   good-from NoRecord e h =
       record {
         begun = from-none c e .0;
         no-step = from-none c e .1;
         no-arrow-left = from-none c e .2;
-        none-left = zero-if (length xs) (ltb-false 0 (length xs) (none-stands-one _ _ h)) }
+        none-left = zero-if (length xs) (ltb-false 0 (length xs) (none-stands-one _ _ h));
+      }
 
   -- no check declines a good record, and it is the one that is expected
   pub good-passes : (e : Expected) → Good e xs c → (expected c ≡ e) × (firstOf (checks e xs c) ≡ None)
   good-passes HeaderRecord g =
       let form = or-from (not (eqb (header-at xs 0) 1)) (ltb 0 (header-at xs 3))
-        (not-from-true (eqb (header-at xs 0) 1) (eq-eqb (header-at xs 0) 1 (g .form-is)))
-        (le-ltb 0 (header-at xs 3) (zero-le-by (g .spare-is))) in
+      (not-from-true (eqb (header-at xs 0) 1) (eq-eqb (header-at xs 0) 1 (g .form-is)))
+      (le-ltb 0 (header-at xs 3) (zero-le-by (g .spare-is))) in
       let few = or-from (ltb 64 (header-at xs 1)) (ltb 512 (header-at xs 2))
-        (le-ltb 64 (header-at xs 1) (g .few-steps)) (le-ltb 512 (header-at xs 2) (g .few-arrows)) in
+      (le-ltb 64 (header-at xs 1) (g .few-steps)) (le-ltb 512 (header-at xs 2) (g .few-arrows)) in
       let values = or-from (eqb (header-at xs 1) 0) (ltb 64 (header-at xs 1) || ltb 512 (header-at xs 2))
-        (ne-eqb (header-at xs 1) 0 (not-zero-by (g .some-steps))) few in
+      (ne-eqb (header-at xs 1) 0 (not-zero-by (g .some-steps))) few in
       (header-expected c (g .first), all-pass _ _ _ (le-ltb (length xs) 4 (g .long)) form values)
   good-passes StepRecord g =
       let long = or-from (ltb (length xs) 2) (ltb (length xs) (2 + name-length xs))
-        (le-ltb (length xs) 2 (short-by (name-length xs) (length xs) (g .long))) (le-ltb (length xs) (2 + name-length xs) (g .long)) in
+      (le-ltb (length xs) 2 (short-by (name-length xs) (length xs) (g .long))) (le-ltb (length xs) (2 + name-length xs) (g .long)) in
       let values = or-from (ltb 1 (step-at xs 5)) (eqb (name-length xs) 0)
-        (le-ltb 1 (step-at xs 5) (g .kind-low)) (ne-eqb (name-length xs) 0 (not-zero-by (g .some-name))) in
-      (step-expected c (g .begun) (g .wanted),
-       all-pass _ _ _ long (le-ltb 0 (step-at xs 7) (zero-le-by (g .spare-is))) values)
+      (le-ltb 1 (step-at xs 5) (g .kind-low)) (ne-eqb (name-length xs) 0 (not-zero-by (g .some-name))) in (
+        step-expected c (g .begun) (g .wanted),
+        all-pass _ _ _ long (le-ltb 0 (step-at xs 7) (zero-le-by (g .spare-is))) values,
+      )
   good-passes ArrowRecord g =
       let a = read-arrow xs in
       let order = or-from (eqb (a .to) 1) (not (before (c .last) a))
-        (ne-eqb (a .to) 1 (g .to-low)) (not-from-true (before (c .last) a) (before-holds (c .last) a (g .rising))) in
+      (ne-eqb (a .to) 1 (g .to-low)) (not-from-true (before (c .last) a) (before-holds (c .last) a (g .rising))) in
       let to = or-from (ltb (c .steps) (a .to)) _ (le-ltb (c .steps) (a .to) (g .to-high)) order in
-      let from = or-from (ltb (c .steps) (a .from)) _ (le-ltb (c .steps) (a .from) (g .from-high)) to in
-      (arrow-expected c (g .begun) (g .no-step) (g .wanted),
-       all-pass _ _ _ (le-ltb (length xs) 2 (g .long)) (le-ltb 0 (arrow-at xs 2) (zero-le-by (g .spare-is))) from)
-  good-passes NoRecord g =
-      (none-expected c (g .begun) (g .no-step) (g .no-arrow-left),
-       one-passes _ (le-ltb 0 (length xs) (zero-le-by (g .none-left))))
+      let from = or-from (ltb (c .steps) (a .from)) _ (le-ltb (c .steps) (a .from) (g .from-high)) to in (
+        arrow-expected c (g .begun) (g .no-step) (g .wanted),
+        all-pass _ _ _ (le-ltb (length xs) 2 (g .long)) (le-ltb 0 (arrow-at xs 2) (zero-le-by (g .spare-is))) from,
+      )
+  good-passes NoRecord g = (
+    none-expected c (g .begun) (g .no-step) (g .no-arrow-left),
+    one-passes _ (le-ltb 0 (length xs) (zero-le-by (g .none-left))),
+  )

@@ -74,7 +74,7 @@ back-one n h = omega arith
 
 -- the header is the stored form of what it says
 pub header-back : (xs : List ℕ) → Bytes xs → 4 ≤ length xs → header-at xs 0 ≡ 1 → header-at xs 3 ≡ 0
-  → xs ≡ header-form (header-at xs 1) (header-at xs 2) ++ drop 4 xs
+    → xs ≡ header-form (header-at xs 1) (header-at xs 2) ++ drop 4 xs
 header-back [] b l f s = absurd (omega arith)
 header-back (p ∷ []) b l f s = absurd (omega arith)
 header-back (p ∷ q ∷ []) b l f s = absurd (omega arith)
@@ -84,14 +84,14 @@ header-back (p ∷ q ∷ r ∷ t ∷ xs) b l f s =
     let one = sym f in
     let none = sym s in
     let fields : header-fields (header-at ys 1) (header-at ys 2) ≡ unpack header-widths (word4 ys) =
-      λ i. one i ∷ header-at ys 1 ∷ header-at ys 2 ∷ none i ∷ [] in
+    λ i. one i ∷ header-at ys 1 ∷ header-at ys 2 ∷ none i ∷ [] in
     let form = ap (λ (vs : List ℕ). unpack four-bytes (pack header-widths vs)) fields
-      ∙ repacked header-widths four-bytes (p ∷ q ∷ r ∷ t ∷ []) refl (b .0, (b .1 .0, (b .1 .1 .0, (b .1 .1 .1 .0, tt)))) in
+    ∙ repacked header-widths four-bytes (p ∷ q ∷ r ∷ t ∷ []) refl (b .0, (b .1 .0, (b .1 .1 .0, (b .1 .1 .1 .0, tt)))) in
     ap (λ (vs : List ℕ). vs ++ xs) (sym form)
 
 -- a step's record is the stored form of what it says
 pub step-back : (xs : List ℕ) → Bytes xs → 2 + name-length xs ≤ length xs → step-at xs 5 ≤ 1 → step-at xs 7 ≡ 0
-  → xs ≡ step-form (read-step xs) ++ drop (2 + name-length xs) xs
+    → xs ≡ step-form (read-step xs) ++ drop (2 + name-length xs) xs
 step-back [] b l k s = absurd (omega arith)
 step-back (p ∷ []) b l k s = absurd (omega arith)
 step-back (p ∷ q ∷ xs) b l k s =
@@ -108,18 +108,18 @@ step-back (p ∷ q ∷ xs) b l k s =
     let e₆ : length (take n xs) ≡ n = length-take-le n xs (omega arith) in
     let e₇ = sym s in
     let fields : step-fields (read-step ys) ≡ unpack step-widths w =
-      λ i. e₀ i ∷ e₁ i ∷ e₂ i ∷ e₃ i ∷ e₄ i ∷ e₅ i ∷ e₆ i ∷ e₇ i ∷ [] in
+    λ i. e₀ i ∷ e₁ i ∷ e₂ i ∷ e₃ i ∷ e₄ i ∷ e₅ i ∷ e₆ i ∷ e₇ i ∷ [] in
     let form : unpack two-bytes (pack step-widths (step-fields (read-step ys))) ≡ p ∷ q ∷ [] =
-      ap (λ (vs : List ℕ). unpack two-bytes (pack step-widths vs)) fields
-      ∙ repacked step-widths two-bytes (p ∷ q ∷ []) refl (b .0, (b .1 .0, tt)) in
+    ap (λ (vs : List ℕ). unpack two-bytes (pack step-widths vs)) fields
+    ∙ repacked step-widths two-bytes (p ∷ q ∷ []) refl (b .0, (b .1 .0, tt)) in
     let rest : take n xs ++ drop (2 + n) ys ≡ xs =
-      ap (λ (vs : List ℕ). take n xs ++ vs) (sym (drop-drop n 2 ys)) ∙ take-append-drop n xs in
+    ap (λ (vs : List ℕ). take n xs ++ vs) (sym (drop-drop n 2 ys)) ∙ take-append-drop n xs in
     sym (append-assoc (unpack two-bytes (pack step-widths (step-fields (read-step ys)))) (take n xs) (drop (2 + n) ys)
-      ∙ ap₂ (λ (us vs : List ℕ). us ++ vs) form rest)
+    ∙ ap₂ (λ (us vs : List ℕ). us ++ vs) form rest)
 
 -- an arrow's record is the stored form of what it says
 pub arrow-back : (xs : List ℕ) → Bytes xs → 2 ≤ length xs → arrow-at xs 2 ≡ 0
-  → xs ≡ arrow-form (read-arrow xs) ++ drop 2 xs
+    → xs ≡ arrow-form (read-arrow xs) ++ drop 2 xs
 arrow-back [] b l s = absurd (omega arith)
 arrow-back (p ∷ []) b l s = absurd (omega arith)
 arrow-back (p ∷ q ∷ xs) b l s =
@@ -128,9 +128,9 @@ arrow-back (p ∷ q ∷ xs) b l s =
     let from : (arrow-at ys 0 + 1) - 1 ≡ arrow-at ys 0 = less-one (arrow-at ys 0) in
     let to : (arrow-at ys 1 + 1) - 1 ≡ arrow-at ys 1 = less-one (arrow-at ys 1) in
     let fields : arrow-fields (read-arrow ys) ≡ unpack arrow-widths (word2 ys) =
-      λ i. from i ∷ to i ∷ none i ∷ [] in
+    λ i. from i ∷ to i ∷ none i ∷ [] in
     let form = ap (λ (vs : List ℕ). unpack two-bytes (pack arrow-widths vs)) fields
-      ∙ repacked arrow-widths two-bytes (p ∷ q ∷ []) refl (b .0, (b .1 .0, tt)) in
+    ∙ repacked arrow-widths two-bytes (p ∷ q ∷ []) refl (b .0, (b .1 .0, tt)) in
     ap (λ (vs : List ℕ). vs ++ xs) (sym form)
 
 -- the number that two bytes, or four, were made of
@@ -142,7 +142,7 @@ word2-forth n xs h = pack-unpack two-bytes n ∙ mod-eq-of-lt h
 
 -- what the stored form of a header says
 pub header-forth : (n m : ℕ) (xs : List ℕ) → n < 128 → m < 1024
-  → unpack header-widths (word4 (header-form n m ++ xs)) ≡ header-fields n m
+    → unpack header-widths (word4 (header-form n m ++ xs)) ≡ header-fields n m
 header-forth n m xs hn hm =
     let fit : Fit header-widths (header-fields n m) = (omega arith, (hn, (hm, (omega arith, tt)))) in
     ap (unpack header-widths) (word4-forth (pack header-widths (header-fields n m)) xs (pack-below header-widths (header-fields n m) fit))
@@ -150,18 +150,25 @@ header-forth n m xs hn hm =
 
 -- what the stored form of a step says
 pub step-forth : (s : Named) (xs : List ℕ) → length (s .name) < 32
-  → unpack step-widths (word2 (step-form s ++ xs)) ≡ step-fields s
+    → unpack step-widths (word2 (step-form s ++ xs)) ≡ step-fields s
 step-forth s xs h =
-    let fit : Fit step-widths (step-fields s) =
-      (bit-small (s .step .savepoint), (bit-small (s .step .counterpart), (bit-small (s .step .private),
-        (flow-small (s .step .entry), (flow-small (s .step .exit), (kind-small (s .step .kind), (h, (omega arith, tt)))))))) in
+    let fit : Fit step-widths (step-fields s) = (
+      bit-small (s .step .savepoint),
+      (
+        bit-small (s .step .counterpart),
+        (
+          bit-small (s .step .private),
+          (flow-small (s .step .entry), (flow-small (s .step .exit), (kind-small (s .step .kind), (h, (omega arith, tt))))),
+        ),
+      ),
+    ) in
     let n = pack step-widths (step-fields s) in
     ap (unpack step-widths) (word2-forth n [] (pack-below step-widths (step-fields s) fit))
     ∙ unpack-pack step-widths (step-fields s) fit
 
 -- what the stored form of an arrow says
 pub arrow-forth : (a : Arrow) (xs : List ℕ) → a .from - 1 < 64 → a .to - 1 < 64
-  → unpack arrow-widths (word2 (arrow-form a ++ xs)) ≡ arrow-fields a
+    → unpack arrow-widths (word2 (arrow-form a ++ xs)) ≡ arrow-fields a
 arrow-forth a xs f t =
     let fit : Fit arrow-widths (arrow-fields a) = (f, (t, (omega arith, tt))) in
     ap (unpack arrow-widths) (word2-forth (pack arrow-widths (arrow-fields a)) xs (pack-below arrow-widths (arrow-fields a) fit))
@@ -179,18 +186,19 @@ step-read s xs h =
     let e₄ = ap flow-of (at 4) ∙ flow-forth (s .step .exit) in
     let e₅ = ap kind-of (at 5) ∙ kind-forth (s .step .kind) in
     let name : take (name-length (step-form s ++ xs)) (s .name ++ xs) ≡ s .name =
-      ap (λ (n : ℕ). take n (s .name ++ xs)) (at 6) ∙ take-at (s .name) xs (length (s .name)) refl in
+    ap (λ (n : ℕ). take n (s .name ++ xs)) (at 6) ∙ take-at (s .name) xs (length (s .name)) refl in
     λ i. record {
       step = record { savepoint = e₀ i; counterpart = e₁ i; private = e₂ i; entry = e₃ i; exit = e₄ i; kind = e₅ i };
-      name = name i }
+      name = name i;
+    }
 
 -- reading the stored form of an arrow gives the arrow back
 pub arrow-read : (a : Arrow) (xs : List ℕ) → 1 ≤ a .from → 1 ≤ a .to → a .from ≤ 64 → a .to ≤ 64
-  → read-arrow (arrow-form a ++ xs) ≡ a
+    → read-arrow (arrow-form a ++ xs) ≡ a
 arrow-read a xs lf lt hf ht =
     let fs = arrow-forth a xs (omega arith) (omega arith) in
     let from : arrow-at (arrow-form a ++ xs) 0 + 1 ≡ a .from =
-      ap (λ (vs : List ℕ). getD vs 0 0 + 1) fs ∙ back-one (a .from) lf in
+    ap (λ (vs : List ℕ). getD vs 0 0 + 1) fs ∙ back-one (a .from) lf in
     let to : arrow-at (arrow-form a ++ xs) 1 + 1 ≡ a .to =
-      ap (λ (vs : List ℕ). getD vs 1 0 + 1) fs ∙ back-one (a .to) lt in
+    ap (λ (vs : List ℕ). getD vs 1 0 + 1) fs ∙ back-one (a .to) lt in
     λ i. record { from = from i; to = to i }

@@ -36,7 +36,7 @@ last-push none [] a = refl
 last-push none (z ∷ zs) a = last-push z zs a
 
 pub rising-push : (none : Arrow) (zs : List Arrow) (a : Arrow) → Rising none zs → Before (last-of none zs) a
-  → Rising none (zs ++ a ∷ [])
+    → Rising none (zs ++ a ∷ [])
 rising-push none [] a r b = (b, tt)
 rising-push none (z ∷ zs) a r b = (r .0, rising-push z zs a (r .1) b)
 
@@ -55,14 +55,14 @@ step-length s = length-append (unpack two-bytes (pack step-widths (step-fields s
 module _ (n m : ℕ) (p : Plan) where
   -- where the reader stands after a step more
   pub step-cursor : (s : Named) (place : ℕ) (xs : List ℕ) → name-length xs ≡ length (s .name)
-    → moved StepRecord xs (cursor-after n m p) ≡ cursor-after n m (with-record p (step s place))
+      → moved StepRecord xs (cursor-after n m p) ≡ cursor-after n m (with-record p (step s place))
   step-cursor s place xs e =
       let q = with-record p (step s place) in
       let long : length (form-of n m p) + (2 + name-length xs) ≡ length (form-of n m q) =
-        let whole = form-length n m q in
-        let part = form-length n m p in
-        let pushed = ap length (steps-form-push (p .steps) s) ∙ length-append (steps-form (p .steps)) (step-form s) in
-        omega (arith, step-length s) in
+      let whole = form-length n m q in
+      let part = form-length n m p in
+      let pushed = ap length (steps-form-push (p .steps) s) ∙ length-append (steps-form (p .steps)) (step-form s) in
+      omega (arith, step-length s) in
       let left : (n - length (p .steps)) - 1 ≡ n - length (q .steps) = omega (arith, length-push (p .steps) s) in
       λ i. record {
         place = long i;
@@ -70,18 +70,19 @@ module _ (n m : ℕ) (p : Plan) where
         steps = n;
         «steps_left» = left i;
         «arrows_left» = m - length (p .arrows);
-        last = last-of no-arrow (p .arrows) }
+        last = last-of no-arrow (p .arrows);
+      }
 
   -- and after an arrow more
   pub arrow-cursor : (a : Arrow) (xs : List ℕ) → read-arrow xs ≡ a
-    → moved ArrowRecord xs (cursor-after n m p) ≡ cursor-after n m (with-record p (arrow a))
+      → moved ArrowRecord xs (cursor-after n m p) ≡ cursor-after n m (with-record p (arrow a))
   arrow-cursor a xs e =
       let q = with-record p (arrow a) in
       let long : length (form-of n m p) + 2 ≡ length (form-of n m q) =
-        let whole = form-length n m q in
-        let part = form-length n m p in
-        let pushed = ap length (arrows-form-push (p .arrows) a) ∙ length-append (arrows-form (p .arrows)) (arrow-form a) in
-        omega arith in
+      let whole = form-length n m q in
+      let part = form-length n m p in
+      let pushed = ap length (arrows-form-push (p .arrows) a) ∙ length-append (arrows-form (p .arrows)) (arrow-form a) in
+      omega arith in
       let left : (m - length (p .arrows)) - 1 ≡ m - length (q .arrows) = omega (arith, length-push (p .arrows) a) in
       let last-is = e ∙ sym (last-push no-arrow (p .arrows) a) in
       λ i. record {
@@ -90,11 +91,12 @@ module _ (n m : ℕ) (p : Plan) where
         steps = n;
         «steps_left» = n - length (p .steps);
         «arrows_left» = left i;
-        last = last-is i }
+        last = last-is i;
+      }
 
 -- where it stands after the header
 pub header-cursor : (n m : ℕ) → cursor-after n m no-plan
-  ≡ record { place = 4; begun = true; steps = n; «steps_left» = n; «arrows_left» = m; last = no-arrow }
+    ≡ record { place = 4; begun = true; steps = n; «steps_left» = n; «arrows_left» = m; last = no-arrow }
 header-cursor n m =
     let left : n - 0 ≡ n = omega arith in
     let more-left : m - 0 ≡ m = omega arith in
@@ -102,18 +104,18 @@ header-cursor n m =
 
 -- the form with a step more, before the first arrow, and with an arrow more
 pub form-step : (n m : ℕ) (p : Plan) (s : Named) (place : ℕ) → p .arrows ≡ []
-  → form-of n m (with-record p (step s place)) ≡ form-of n m p ++ step-form s
+    → form-of n m (with-record p (step s place)) ≡ form-of n m p ++ step-form s
 form-step n m p s place none =
     let ss = p .steps in
     let head = header-form n m in
     let empty : (ts : List Named) → steps-form ts ++ arrows-form (p .arrows) ≡ steps-form ts =
-      λ ts. ap (λ (zs : List Arrow). steps-form ts ++ arrows-form zs) none ∙ append-nil (steps-form ts) in
+    λ ts. ap (λ (zs : List Arrow). steps-form ts ++ arrows-form zs) none ∙ append-nil (steps-form ts) in
     ap (λ (xs : List ℕ). head ++ xs) (empty (ss ++ s ∷ []) ∙ steps-form-push ss s)
     ∙ sym (append-assoc head (steps-form ss) (step-form s))
     ∙ ap (λ (xs : List ℕ). (head ++ xs) ++ step-form s) (sym (empty ss))
 
 pub form-arrow : (n m : ℕ) (p : Plan) (a : Arrow)
-  → form-of n m (with-record p (arrow a)) ≡ form-of n m p ++ arrow-form a
+    → form-of n m (with-record p (arrow a)) ≡ form-of n m p ++ arrow-form a
 form-arrow n m p a =
     let head = header-form n m in
     let sf = steps-form (p .steps) in

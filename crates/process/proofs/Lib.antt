@@ -1,7 +1,7 @@
 pub mod Nexts
-pub mod Targets
 pub mod Shapes
 pub mod Checks
+pub mod Targets
 pub mod Rooms
 pub mod Packing
 pub mod Forms

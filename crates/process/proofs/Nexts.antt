@@ -39,16 +39,16 @@ module _ (e : Expected) (xs : List ℕ) (c : Cursor) where
 
   -- a call that met a fault answers it, and leaves the reader as it was
   pub declines : (s : List ℕ × Cursor) (r : Result (Option Item) Fault) (f y : Fault)
-    → r ≡ Err y → y ≡ f → firstOf (checks e xs c) ≡ Some f
-    → (told r ≡ said-by (next-of e xs c)) × (s ≡ stand-after (next-of e xs c) s)
+      → r ≡ Err y → y ≡ f → firstOf (checks e xs c) ≡ Some f
+      → (told r ≡ said-by (next-of e xs c)) × (s ≡ stand-after (next-of e xs c) s)
   declines s r f y is same h =
       let n = next-declined f h in
       (ap told is ∙ ap (λ (z : Fault). Err z) same ∙ sym (ap said-by n), sym (ap (λ g. stand-after g s) n))
 
   -- a call that met none hands the record out, and leaves the reader after it
   pub hands-out : (s t : List ℕ × Cursor) (i : Record) → firstOf (checks e xs c) ≡ None
-    → Some i ≡ says e xs c → t ≡ (drop (size e xs) xs, moved e xs c)
-    → (Ok (Some i) ≡ said-by (next-of e xs c)) × (t ≡ stand-after (next-of e xs c) s)
+      → Some i ≡ says e xs c → t ≡ (drop (size e xs) xs, moved e xs c)
+      → (Ok (Some i) ≡ said-by (next-of e xs c)) × (t ≡ stand-after (next-of e xs c) s)
   hands-out s t i h said after =
       let n = next-given h in
       (ap (λ (o : Option Record). Ok o) said ∙ sym (ap said-by n), after ∙ sym (ap (λ g. stand-after g s) n))

@@ -52,11 +52,12 @@ so-far-none n m lo hi few = record {
   steps-first = λ _. refl;
   named = tt;
   placed = tt;
-  rising = tt }
+  rising = tt;
+}
 
 module _ (xs : List ℕ) where
   front-header : (rest : List ℕ) (c : Cursor) (p : Plan) → Bytes rest → Good-header rest c → Front xs rest c p
-    → Front xs (drop 4 rest) (moved HeaderRecord rest c) p
+      → Front xs (drop 4 rest) (moved HeaderRecord rest c) p
   front-header _ _ _ b g nothing-read =
       let n = header-at xs 1 in
       let m = header-at xs 2 in
@@ -66,7 +67,7 @@ module _ (xs : List ℕ) where
   front-header rest _ p b g (read-so-far n m s e) = absurd (both-ways true (g .first) refl)
 
   front-step : (rest : List ℕ) (c : Cursor) (p : Plan) → Bytes rest → Good-step rest c → Front xs rest c p
-    → Front xs (drop (size StepRecord rest) rest) (moved StepRecord rest c) (with-record p (step (read-step rest) (c .place + 2)))
+      → Front xs (drop (size StepRecord rest) rest) (moved StepRecord rest c) (with-record p (step (read-step rest) (c .place + 2)))
   front-step _ _ _ b g nothing-read = absurd (both-ways false refl (g .begun))
   front-step rest _ p b g (read-so-far n m s e) =
       let t = read-step rest in
@@ -85,14 +86,15 @@ module _ (xs : List ℕ) where
         steps-first = λ _. none;
         named = all-push Nameable (p .steps) t (s .named) (some, short);
         placed = s .placed;
-        rising = s .rising } in
+        rising = s .rising;
+      } in
       let bytes = form-on (form-of n m p) _ (step-form t) xs _ rest (form-step n m p t place none)
-        (step-back rest b (g .long) (g .kind-low) (g .spare-is)) e in
+      (step-back rest b (g .long) (g .kind-low) (g .spare-is)) e in
       subst (λ (c : Cursor). Front xs (drop (size StepRecord rest) rest) c (with-record p (step t place)))
       (sym (step-cursor n m p t place rest (sym long))) (read-so-far n m so bytes)
 
   front-arrow : (rest : List ℕ) (c : Cursor) (p : Plan) → Bytes rest → Good-arrow rest c → Front xs rest c p
-    → Front xs (drop 2 rest) (moved ArrowRecord rest c) (with-record p (arrow (read-arrow rest)))
+      → Front xs (drop 2 rest) (moved ArrowRecord rest c) (with-record p (arrow (read-arrow rest)))
   front-arrow _ _ _ b g nothing-read = absurd (both-ways false refl (g .begun))
   front-arrow rest _ p b g (read-so-far n m s e) =
       let a = read-arrow rest in
@@ -100,7 +102,8 @@ module _ (xs : List ℕ) where
         from-low = at-least-1 _;
         from-high = g .from-high;
         to-low = two-if _ (at-least-1 _) (g .to-low);
-        to-high = g .to-high } in
+        to-high = g .to-high;
+      } in
       let full : length (p .steps) ≡ n = omega (arith, g .no-step, s .steps-in) in
       let so : So-far n m (with-record p (arrow a)) = record {
         some-steps = s .some-steps;
@@ -111,15 +114,16 @@ module _ (xs : List ℕ) where
         steps-first = λ less. absurd (omega arith);
         named = s .named;
         placed = all-push (Placed n) (p .arrows) a (s .placed) placed;
-        rising = rising-push no-arrow (p .arrows) a (s .rising) (g .rising) } in
+        rising = rising-push no-arrow (p .arrows) a (s .rising) (g .rising);
+      } in
       let bytes = form-on (form-of n m p) _ (arrow-form a) xs _ rest (form-arrow n m p a)
-        (arrow-back rest b (g .long) (g .spare-is)) e in
+      (arrow-back rest b (g .long) (g .spare-is)) e in
       subst (λ (c : Cursor). Front xs (drop 2 rest) c (with-record p (arrow a)))
       (sym (arrow-cursor n m p a rest refl)) (read-so-far n m so bytes)
 
   -- one record more
   front-got : (e : Expected) (rest : List ℕ) (c : Cursor) (p : Plan) → Bytes rest → Good e rest c → Front xs rest c p
-    → (i : Record) → says e rest c ≡ Some i → Front xs (drop (size e rest) rest) (moved e rest c) (with-record p i)
+      → (i : Record) → says e rest c ≡ Some i → Front xs (drop (size e rest) rest) (moved e rest c) (with-record p i)
   front-got HeaderRecord rest c p b g f i s =
       subst (λ (j : Record). Front xs (drop 4 rest) (moved HeaderRecord rest c) (with-record p j)) (some-same s) (front-header rest c p b g f)
   front-got StepRecord rest c p b g f i s =
@@ -130,16 +134,17 @@ module _ (xs : List ℕ) where
   front-got NoRecord rest c p b g f i s = let z : _≡_ {A = ℕ} 0 1 = cc in absurd (omega arith)
 
   pub front-more : {rest ys : List ℕ} {c d : Cursor} {p : Plan} (i : Record) → Bytes rest → Front xs rest c p
-    → next rest c ≡ Ok (record { said = Some i; rest = ys; cursor = d }) → Front xs ys d (with-record p i) × Bytes ys
+      → next rest c ≡ Ok (record { said = Some i; rest = ys; cursor = d }) → Front xs ys d (with-record p i) × Bytes ys
   front-more {rest = rest} {ys = ys} {c = c} {d = d} {p = p} i b f e =
       let w = next-good rest c _ e in
       let said : says (expected c) rest c ≡ Some i = sym (ap (λ (g : Got). g .said) (w .1)) in
       let left : drop (size (expected c) rest) rest ≡ ys = sym (ap (λ (g : Got). g .rest) (w .1)) in
       let cursor : moved (expected c) rest c ≡ d = sym (ap (λ (g : Got). g .cursor) (w .1)) in
-      let more = front-got (expected c) rest c p b (w .0) f i said in
-      (subst (λ (v : List ℕ). Front xs v d (with-record p i)) left
-        (subst (λ (u : Cursor). Front xs (drop (size (expected c) rest) rest) u (with-record p i)) cursor more),
-       subst Bytes left (bytes-drop (size (expected c) rest) rest b))
+      let more = front-got (expected c) rest c p b (w .0) f i said in (
+        subst (λ (v : List ℕ). Front xs v d (with-record p i)) left
+            (subst (λ (u : Cursor). Front xs (drop (size (expected c) rest) rest) u (with-record p i)) cursor more),
+        subst Bytes left (bytes-drop (size (expected c) rest) rest b),
+      )
 
 -- what a scan comes to: the stored form of a process, or the first fault in a record
 abbrev pub Outcome : List ℕ → Result Plan Fault → Type 0
@@ -159,18 +164,20 @@ front-end xs _ _ _ g nothing-read = absurd (both-ways false refl (g .begun))
 front-end xs rest _ p g (read-so-far n m s e) =
     let n-is : n ≡ length (p .steps) = omega (arith, g .no-step, s .steps-in) in
     let m-is : m ≡ length (p .arrows) = omega (arith, g .no-arrow-left, s .arrows-in) in
-    let all : xs ≡ form-of n m p = e ∙ ap (λ (ys : List ℕ). form-of n m p ++ ys) (empty-if rest (g .none-left)) ∙ append-nil (form-of n m p) in
-    (record {
-      some-steps = subst (λ (k : ℕ). 1 ≤ k) n-is (s .some-steps);
-      few-steps = subst (λ (k : ℕ). k ≤ 64) n-is (s .few-steps);
-      named = s .named;
-      few-arrows = subst (λ (k : ℕ). k ≤ 512) m-is (s .few-arrows);
-      placed = subst (λ (k : ℕ). All (Placed k) (p .arrows)) n-is (s .placed);
-      rising = s .rising },
-     all ∙ ap₂ (λ (j k : ℕ). form-of j k p) n-is m-is)
+    let all : xs ≡ form-of n m p = e ∙ ap (λ (ys : List ℕ). form-of n m p ++ ys) (empty-if rest (g .none-left)) ∙ append-nil (form-of n m p) in (
+      record {
+        some-steps = subst (λ (k : ℕ). 1 ≤ k) n-is (s .some-steps);
+        few-steps = subst (λ (k : ℕ). k ≤ 64) n-is (s .few-steps);
+        named = s .named;
+        few-arrows = subst (λ (k : ℕ). k ≤ 512) m-is (s .few-arrows);
+        placed = subst (λ (k : ℕ). All (Placed k) (p .arrows)) n-is (s .placed);
+        rising = s .rising;
+      },
+      all ∙ ap₂ (λ (j k : ℕ). form-of j k p) n-is m-is,
+    )
 
 pub scan-outcome : (xs : List ℕ) {rest : List ℕ} {c : Cursor} {p : Plan} {r : Result Plan Fault}
-  → Bytes rest → Front xs rest c p → Scans rest c p r → Outcome xs r
+    → Bytes rest → Front xs rest c p → Scans rest c p r → Outcome xs r
 scan-outcome xs {rest = rest} {c = c} b f (declined e) =
     in-record f (answer-err (firstOf (checks (expected c) rest c)) (got (expected c) rest c) _ (sym e))
 scan-outcome xs b f (more {i = i} e s) = let w = front-more xs i b f e in scan-outcome xs (w .1) (w .0) s
@@ -206,8 +213,8 @@ scans-same {p = p} {q = q} (more {i = i} {ys = ys} {d = d} e s) (more {i = j} {y
     let same-cursor : f ≡ d = ap (λ (g : Got). g .cursor) same in
     scans-same s
     (subst (λ (k : Record). Scans ys d (with-record p k) q) same-item
-      (subst (λ (k : Cursor). Scans ys k (with-record p j) q) same-cursor
-        (subst (λ (v : List ℕ). Scans v f (with-record p j) q) same-rest t)))
+    (subst (λ (k : Cursor). Scans ys k (with-record p j) q) same-cursor
+    (subst (λ (v : List ℕ). Scans v f (with-record p j) q) same-rest t)))
 scans-same (more e s) (ended h) = absurd (said-apart (sym e ∙ h) refl refl)
 scans-same (ended e) (declined h) = absurd (err-not-ok (sym h ∙ e))
 scans-same (ended e) (more h t) = absurd (said-apart (sym h ∙ e) refl refl)

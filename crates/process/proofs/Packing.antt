@@ -34,11 +34,11 @@ unpack-high (w ∷ ws) a n =
     let low = 2 ^ total ws in
     let high = a * 2 ^ w in
     let split : a * 2 ^ (w + total ws) + n ≡ high * low + n =
-      ap (λ (k : ℕ). a * k + n) (pow-add 2 w (total ws)) ∙ ap (λ (k : ℕ). k + n) (sym (mul-assoc a (2 ^ w) low)) in
+    ap (λ (k : ℕ). a * k + n) (pow-add 2 w (total ws)) ∙ ap (λ (k : ℕ). k + n) (sym (mul-assoc a (2 ^ w) low)) in
     let div : (high * low + n) / low ≡ high + n / low =
-      ap (λ (k : ℕ). k / low) (add-comm (high * low) n) ∙ add-mul-div-right n high (pow-pos (total ws)) ∙ add-comm (n / low) high in
+    ap (λ (k : ℕ). k / low) (add-comm (high * low) n) ∙ add-mul-div-right n high (pow-pos (total ws)) ∙ add-comm (n / low) high in
     let head : field (total ws) w (high * low + n) ≡ field (total ws) w n =
-      ap (λ (k : ℕ). k % 2 ^ w) div ∙ mul-add-mod-self-right a (2 ^ w) (n / low) in
+    ap (λ (k : ℕ). k % 2 ^ w) div ∙ mul-add-mod-self-right a (2 ^ w) (n / low) in
     ap (unpack (w ∷ ws)) split ∙ ap₂ (λ (x : ℕ) (xs : List ℕ). x ∷ xs) head (unpack-high ws high n)
 
 pub unpack-pack : (ws vs : List ℕ) → Fit ws vs → unpack ws (pack ws vs) ≡ vs
@@ -48,12 +48,12 @@ unpack-pack (w ∷ ws) [] f = absurd f
 unpack-pack (w ∷ ws) (v ∷ vs) f =
     let rest = pack-below ws vs (f .1) in
     let head : field (total ws) w (pack (w ∷ ws) (v ∷ vs)) ≡ v =
-      ap (λ (k : ℕ). k % 2 ^ w) (shr-high v (total ws) (pack ws vs) rest) ∙ mod-eq-of-lt (f .0) in
+    ap (λ (k : ℕ). k % 2 ^ w) (shr-high v (total ws) (pack ws vs) rest) ∙ mod-eq-of-lt (f .0) in
     ap₂ (λ (x : ℕ) (xs : List ℕ). x ∷ xs) head (unpack-high ws v (pack ws vs) ∙ unpack-pack ws vs (f .1))
 
 -- a number in fields of some widths, as fields of other widths, and back
 pub repacked : (ws bs : List ℕ) (vs : List ℕ) → total ws ≡ total bs → Fit bs vs
-  → unpack bs (pack ws (unpack ws (pack bs vs))) ≡ vs
+    → unpack bs (pack ws (unpack ws (pack bs vs))) ≡ vs
 repacked ws bs vs e f =
     let n = pack bs vs in
     let small : n < 2 ^ total ws = subst (λ (t : ℕ). n < 2 ^ t) (sym e) (pack-below bs vs f) in

@@ -30,7 +30,7 @@ use Rattle.process.proofs.Checks.{good-from}
 
 -- what the reader told, as the step that it made
 pub read-on : (n : Result Got Fault) (s t : List ℕ × Cursor) (i : Record) → Ok (Some i) ≡ said-by n
-  → t ≡ stand-after n s → n ≡ Ok (record { said = Some i; rest = t .0; cursor = t .1 })
+    → t ≡ stand-after n s → n ≡ Ok (record { said = Some i; rest = t .0; cursor = t .1 })
 read-on (Ok g) s t i e a = let said : g .said ≡ Some i = cc in
     let rest : g .rest ≡ t .0 = sym (ap (λ (u : List ℕ × Cursor). u .0) a) in
     let cursor : g .cursor ≡ t .1 = sym (ap (λ (u : List ℕ × Cursor). u .1) a) in
@@ -38,7 +38,7 @@ read-on (Ok g) s t i e a = let said : g .said ≡ Some i = cc in
 read-on (Err f) s t i e a = let z : _≡_ {A = ℕ} 0 1 = cc in absurd (omega arith)
 
 pub read-end : (n : Result Got Fault) (s t : List ℕ × Cursor) → Ok None ≡ said-by n
-  → t ≡ stand-after n s → n ≡ Ok (record { said = None; rest = t .0; cursor = t .1 })
+    → t ≡ stand-after n s → n ≡ Ok (record { said = None; rest = t .0; cursor = t .1 })
 read-end (Ok g) s t e a = let said : g .said ≡ None = cc in
     let rest : g .rest ≡ t .0 = sym (ap (λ (u : List ℕ × Cursor). u .0) a) in
     let cursor : g .cursor ≡ t .1 = sym (ap (λ (u : List ℕ × Cursor). u .1) a) in
@@ -51,12 +51,12 @@ read-fault (Err g) f e = cc
 
 -- the same of an item
 pub handed-out : (n : Result Got Fault) (s t : List ℕ × Cursor) (o : Option Item) (i : Item) → told (Ok o) ≡ said-by n
-  → t ≡ stand-after n s → o ≡ Some i → n ≡ Ok (record { said = Some (record-of i); rest = t .0; cursor = t .1 })
+    → t ≡ stand-after n s → o ≡ Some i → n ≡ Ok (record { said = Some (record-of i); rest = t .0; cursor = t .1 })
 handed-out n s t o i e a is = read-on n s t (record-of i) (sym (ap (λ (x : Option Item). told (Ok x)) is) ∙ e) a
 
 -- a step of the scan is a good record
 pub next-good : (xs : List ℕ) (c : Cursor) (g : Got) → next xs c ≡ Ok g
-  → Good (expected c) xs c × (g ≡ got (expected c) xs c)
+    → Good (expected c) xs c × (g ≡ got (expected c) xs c)
 next-good xs c g e =
     let w = answer-ok (firstOf (checks (expected c) xs c)) (got (expected c) xs c) g (sym e) in
     (good-from xs c (expected c) refl (w .0), w .1)
@@ -91,32 +91,35 @@ shorter-by n xs lo hi = simp length-drop (omega arith)
 
 module _ (xs : List ℕ) (c : Cursor) (a b : ℕ) (r : Room c a b) where
   onward-got : (e : Expected) → Good e xs c → (i : Record) → says e xs c ≡ Some i
-    → Onward xs a b i (drop (size e xs) xs) (moved e xs c)
+      → Onward xs a b i (drop (size e xs) xs) (moved e xs c)
   onward-got HeaderRecord g i s =
       let none = r .0 (g .first) in
       subst (λ (j : Record). Onward xs a b j (drop 4 xs) (moved HeaderRecord xs c)) (some-same s) (record {
         steps-fit = omega (arith, none .0);
         arrows-fit = omega (arith, none .1);
         room = (λ (f : true ≡ false). absurd (both-ways true f refl), λ t. (room-by none (g .few-steps) (g .few-arrows)));
-        shorter = shorter-by 4 xs (omega arith) (g .long) })
+        shorter = shorter-by 4 xs (omega arith) (g .long);
+      })
   onward-got StepRecord g i s =
       let left = r .1 (g .begun) in
       subst (λ (j : Record). Onward xs a b j (drop (size StepRecord xs) xs) (moved StepRecord xs c)) (some-same s) (record {
         steps-fit = omega (arith, left .0, g .wanted);
         arrows-fit = omega (arith, left .1);
         room = (λ f. absurd (both-ways (c .begun) f (g .begun)), λ t. (omega (arith, left .0, g .wanted), omega (arith, left .1)));
-        shorter = shorter-by (size StepRecord xs) xs (at-least-2 (name-length xs)) (g .long) })
+        shorter = shorter-by (size StepRecord xs) xs (at-least-2 (name-length xs)) (g .long);
+      })
   onward-got ArrowRecord g i s =
       let left = r .1 (g .begun) in
       subst (λ (j : Record). Onward xs a b j (drop 2 xs) (moved ArrowRecord xs c)) (some-same s) (record {
         steps-fit = omega (arith, left .0);
         arrows-fit = omega (arith, left .1, g .wanted);
         room = (λ f. absurd (both-ways (c .begun) f (g .begun)), λ t. (omega (arith, left .0), omega (arith, left .1, g .wanted)));
-        shorter = shorter-by 2 xs (omega arith) (g .long) })
+        shorter = shorter-by 2 xs (omega arith) (g .long);
+      })
   onward-got NoRecord g i s = let z : _≡_ {A = ℕ} 0 1 = cc in absurd (omega arith)
 
   pub onward : (i : Record) (ys : List ℕ) (d : Cursor) → next xs c ≡ Ok (record { said = Some i; rest = ys; cursor = d })
-    → Onward xs a b i ys d
+      → Onward xs a b i ys d
   onward i ys d e =
       let w = next-good xs c _ e in
       let said : says (expected c) xs c ≡ Some i = sym (ap (λ (g : Got). g .said) (w .1)) in
@@ -127,7 +130,7 @@ module _ (xs : List ℕ) (c : Cursor) (a b : ℕ) (r : Room c a b) where
 
 -- the tables with one record more hold the plan with one record more
 pub bare-more : (p : Plan) (t : List Step × List Arrow) (i : Record) → t ≡ bare-plan p
-  → bare-with t i ≡ bare-plan (with-record p i)
+    → bare-with t i ≡ bare-plan (with-record p i)
 bare-more p t (header n m) e = e
 bare-more p t (step s place) e =
     ap (λ (u : List Step × List Arrow). bare-with u (step s place)) e
@@ -142,32 +145,34 @@ pub record Partly (xs rest : List ℕ) (c : Cursor) (t : List Step × List Arrow
   pub onwards : (r : Result Plan Fault) → Scans rest c plan r → Scan xs r
 
 pub partly-begun : {xs rest : List ℕ} {c : Cursor} {t : List Step × List Arrow} {a b : ℕ}
-  → _≡_ {A = List ℕ × Cursor} (rest, c) (xs, start) → t ≡ ([], []) → a ≡ 0 → b ≡ 0 → Partly xs rest c t a b
+    → _≡_ {A = List ℕ × Cursor} (rest, c) (xs, start) → t ≡ ([], []) → a ≡ 0 → b ≡ 0 → Partly xs rest c t a b
 partly-begun {xs = xs} {rest = rest} {c = c} {t = t} {a = a} {b = b} s e f g =
     let P : List ℕ × Cursor → Type 0 = λ u. Partly xs (u .0) (u .1) t a b in
     subst P (sym s) (record {
       plan = no-plan;
       holds = e;
       room = (λ _. (f, g), λ (z : false ≡ true). absurd (both-ways false refl z));
-      onwards = λ r h. h })
+      onwards = λ r h. h;
+    })
 
 module _ {xs rest : List ℕ} {c : Cursor} {t : List Step × List Arrow} {a b : ℕ} (p : Partly xs rest c t a b) where
   pub partly-more : {ys : List ℕ} {d : Cursor} {u : List Step × List Arrow} {m n : ℕ} (i : Record)
-    → next rest c ≡ Ok (record { said = Some i; rest = ys; cursor = d })
-    → u ≡ bare-with t i → m ≡ a + step-more i → n ≡ b + arrow-more i → Partly xs ys d u m n
+      → next rest c ≡ Ok (record { said = Some i; rest = ys; cursor = d })
+      → u ≡ bare-with t i → m ≡ a + step-more i → n ≡ b + arrow-more i → Partly xs ys d u m n
   partly-more {ys = ys} {d = d} {m = m} i e more-is m-is n-is =
       let w = onward rest c a b (p .room) i ys d e in
       record {
         plan = with-record (p .plan) i;
         holds = more-is ∙ bare-more (p .plan) t i (p .holds);
         room = subst (λ (n : ℕ). Room d m n) (sym n-is) (subst (λ (k : ℕ). Room d k (b + arrow-more i)) (sym m-is) (w .room));
-        onwards = λ r h. p .onwards r (more e h) }
+        onwards = λ r h. p .onwards r (more e h);
+      }
 
   pub partly-declined : {f : Fault} → next rest c ≡ Err f → Scan xs (Err f)
   partly-declined e = p .onwards _ (declined e)
 
   pub partly-ended : {ys : List ℕ} {d : Cursor} → next rest c ≡ Ok (record { said = None; rest = ys; cursor = d })
-    → Scan xs (Ok (p .plan))
+      → Scan xs (Ok (p .plan))
   partly-ended e = p .onwards _ (ended e)
 
 pub empty-if : {X : Type 0} (xs : List X) → length xs ≡ 0 → xs ≡ []

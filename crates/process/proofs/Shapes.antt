@@ -20,11 +20,11 @@ use Rattle.process.specs.Shape.{fine-by, Lowest-unfit, Shaped}
 
 -- the three parts of the test
 fine-says : (xs : List ℕ) (zs : List Arrow) (k : ℕ) → fine-by xs zs k ≡ true
-  → (ends-at Tail zs k ≤ 8) × (ends-at Head zs k ≤ 8) × Marked xs k
+    → (ends-at Tail zs k ≤ 8) × (ends-at Head zs k ≤ 8) × Marked xs k
 fine-says xs zs k e = (grind (arith, tells), grind (arith, tells), grind (arith, tells))
 
 fine-if : (xs : List ℕ) (zs : List Arrow) (k : ℕ) → ends-at Tail zs k ≤ 8 → ends-at Head zs k ≤ 8 → Marked xs k
-  → fine-by xs zs k ≡ true
+    → fine-by xs zs k ≡ true
 fine-if xs zs k out in-few m = grind (arith, tells)
 
 module _ (zs : List Arrow) (n : ℕ) (before xs : List ℕ) (e : Explored (Leads zs n) (Start n (1 ∷ [])) before xs) where
@@ -44,7 +44,8 @@ module _ (zs : List Arrow) (n : ℕ) (before xs : List ℕ) (e : Explored (Leads
   shaped-from (Some k) h = record {
     step-of = h .0;
     below-fine = λ j lo hi. fine-from j (h .1 j lo hi);
-    not-fine = not-fine-from k (h .2) }
+    not-fine = not-fine-from k (h .2);
+  }
 
 -- what holds of an answer that is known to be `Ok`
 pub at-ok : {T E : Type 0} (A B : Type 0) (r : Result T E) → isOk r ≡ true → Cases r (λ _. A) (λ _. B) → A

@@ -1,95 +1,94 @@
--- A search over the arrows for the least step that an arrow leads to. Assumes nothing.
+-- A search over rising arrows for the least step that an arrow leads to. Assumes nothing.
 use mathlib.Core.Path.{_≡_, refl, sym, ap, _∙_}
-use mathlib.Core.Bool.{true, false}
+use mathlib.Core.Bool.{true, false, _&&_, _||_}
 use mathlib.Core.Logic.{_⊎_, inl, inr, ⊎-elim}
-use mathlib.Core.List.{List}
-use Prim.Native.Nat.{ℕ, _+_, _<_, _≤_}
+use mathlib.Core.List.{List, [], _∷_}
+use Prim.Native.Nat.{ℕ, zero, suc, _+_, _<_, _≤_}
 use native.Mathlib.Omega.{arith}
+use lib.Dec.{eqb, ltb}
 use lib.ListN.{length, getD}
-use Rattle.std.specs.declared.option.Option.{Option}
 use Rattle.std.specs.declared.option.Option.the-variants.{Some, None}
-use Rattle.std.proofs.shelf.Tests.{cases-eq}
+use Rattle.std.proofs.shelf.Tests.{cases-order, both-ways}
 use Rattle.std.proofs.shelf.Ways.{tells}
 use Rattle.graph.specs.Reach.{Within, Least}
 use Rattle.process.specs.declared.parts.Arrow.{Arrow}
-use Rattle.process.specs.Stored.{no-arrow, Leads-among}
-use Rattle.process.specs.Shape.{better, under}
+use Rattle.process.specs.Stored.{no-arrow, Leads, Before, Rising}
+use Rattle.process.specs.Reading.{before}
+use Rattle.process.specs.Shape.{Sorted, hits}
+use Rattle.process.proofs.Checks.{before-true, before-holds}
 
-module _ (zs : List Arrow) (m n j : ℕ) where
-  pub leads-more : (k : ℕ) → Leads-among m zs n j k → Leads-among (m + 1) zs n j k
-  leads-more k l = record {
-    place = l .place;
-    inside = omega (arith, l .inside);
-    from-is = l .from-is;
-    to-is = l .to-is;
-    from-step = l .from-step;
-    to-step = l .to-step }
+before-trans : (a b c : Arrow) → Before a b → Before b c → Before a c
+before-trans a b c (inl p) (inl q) = inl (omega arith)
+before-trans a b c (inl p) (inr q) = inl (omega (arith, q .0))
+before-trans a b c (inr p) (inl q) = inl (omega (arith, p .0))
+before-trans a b c (inr p) (inr q) = inr (p .0 ∙ q .0, omega (arith, p .1, q .1))
 
-  -- it is one of the first m, or the one at m
-  pub leads-split : (k : ℕ) → Leads-among (m + 1) zs n j k
-    → Leads-among m zs n j k ⊎ ((getD zs m no-arrow .from ≡ j) × (getD zs m no-arrow .to ≡ k))
-  leads-split k l =
-      elim (cases-eq (l .place) m) [
-        inl e ↦ inr
-          (ap (λ (i : ℕ). getD zs i no-arrow .from) (sym e) ∙ l .from-is,
-           ap (λ (i : ℕ). getD zs i no-arrow .to) (sym e) ∙ l .to-is)
-      | inr ne ↦ inl (record {
-          place = l .place;
-          inside = omega (arith, l .inside);
-          from-is = l .from-is;
-          to-is = l .to-is;
-          from-step = l .from-step;
-          to-step = l .to-step }) ]
+-- of rising arrows, each comes after `none`
+after-none : (none : Arrow) (zs : List Arrow) → Rising none zs → (i : ℕ) → i < length zs → Before none (getD zs i no-arrow)
+after-none none [] r i l = absurd (omega arith)
+after-none none (z ∷ zs) r zero l = r .0
+after-none none (z ∷ zs) r (suc i) l = before-trans none z _ (r .0) (after-none z zs (r .1) i (omega arith))
 
-  -- an arrow that leads to a step above `after`, and below the best, is better
-  better-by : (after k : ℕ) (best : Option ℕ) → Leads-among (m + 1) zs n j k → getD zs m no-arrow .from ≡ j
-    → getD zs m no-arrow .to ≡ k → after < k → under best k ≡ true → better n j after best (getD zs m no-arrow) ≡ true
-  better-by after k best l f t a u =
-      let lo = l .from-step .0 in
-      let hi = l .from-step .1 in
+-- and before every later one
+pub rising-sorted : (none : Arrow) (zs : List Arrow) → Rising none zs → Sorted zs
+rising-sorted none [] r i j h = absurd (omega (arith, h .1))
+rising-sorted none (z ∷ zs) r zero zero h = absurd (omega (arith, h .0))
+rising-sorted none (z ∷ zs) r zero (suc j) h = before-holds z _ (after-none z zs (r .1) j (omega (arith, h .1)))
+rising-sorted none (z ∷ zs) r (suc i) zero h = absurd (omega (arith, h .0))
+rising-sorted none (z ∷ zs) r (suc i) (suc j) h = rising-sorted z zs (r .1) i j (omega (arith, h .0), omega (arith, h .1))
+
+module _ (zs : List Arrow) (n j after : ℕ) (sorted : Sorted zs) where
+  -- an arrow that leads to a step above `after` is a hit
+  hit-by : (k : ℕ) → after < k → (l : Leads zs n j k) → hits n j after (getD zs (l .place) no-arrow) ≡ true
+  hit-by k above l =
+      let f = l .from-is in
+      let t = l .to-is in
       let top = l .to-step .1 in
-      let v : under best (getD zs m no-arrow .to) ≡ true = ap (under best) t ∙ u in
       grind (arith, tells)
 
-  pub least-skip : (after : ℕ) (best : Option ℕ) → better n j after best (getD zs m no-arrow) ≡ false
-    → Least (Leads-among m zs n j) after best → Least (Leads-among (m + 1) zs n j) after best
-  least-skip after None worse h =
-      λ k a l. ⊎-elim (h k a)
-      (λ e. let b = better-by after k None l (e .0) (e .1) a refl in
-        let z : true ≡ false = sym b ∙ worse in grind (arith, tells))
-      (leads-split k l)
-  least-skip after (Some t) worse h =
-      (h .0, leads-more t (h .1), λ k a b l.
-        ⊎-elim (h .2 k a b)
-        (λ e. let u : under (Some t) k ≡ true = grind (arith, tells) in
-          let y = better-by after k (Some t) l (e .0) (e .1) a u in
-          let z : true ≡ false = sym y ∙ worse in grind (arith, tells))
-        (leads-split k l))
+  -- what a hit is
+  hit-says : (a : Arrow) → hits n j after a ≡ true → (a .from ≡ j) × (after < a .to) × (a .to ≤ n)
+  hit-says a h = (grind (arith, tells), grind (arith, tells), grind (arith, tells))
 
-  -- what a better arrow is
-  better-says : (after : ℕ) (best : Option ℕ) (a : Arrow) → better n j after best a ≡ true
-    → (a .from ≡ j) × (1 ≤ j) × (j ≤ n) × (after < a .to) × (a .to ≤ n) × (under best (a .to) ≡ true)
-  better-says after best a is =
-      (grind (arith, tells), grind (arith, tells), grind (arith, tells),
-       grind (arith, tells), grind (arith, tells), grind (arith, tells))
+  -- no arrow so far is a hit
+  abbrev pub Missed : ℕ → Type 0
+  Missed m = (p : ℕ) → p < m → hits n j after (getD zs p no-arrow) ≡ false
 
-  -- nothing lies between `after` and a step that is below the best
-  none-below : (after t : ℕ) (best : Option ℕ) → under best t ≡ true → Least (Leads-among m zs n j) after best
-    → (k : ℕ) → after < k → k < t → Leads-among m zs n j k → ⊥
-  none-below after t None u h k a b l = h k a l
-  none-below after t (Some x) u h k a b l = h .2 k a (grind (arith, tells)) l
+  pub none-hit : Missed (length zs) → Least (Leads zs n j) after None
+  none-hit missed k above l = both-ways _ (missed (l .place) (l .inside)) (hit-by k above l)
 
-  pub least-take : (after : ℕ) (best : Option ℕ) → better n j after best (getD zs m no-arrow) ≡ true
-    → Least (Leads-among m zs n j) after best
-    → Least (Leads-among (m + 1) zs n j) after (Some (getD zs m no-arrow .to))
-  least-take after best is h =
-      let w = better-says after best (getD zs m no-arrow) is in
-      let it : Leads-among (m + 1) zs n j (getD zs m no-arrow .to) = record {
-        place = m;
-        inside = omega arith;
+  -- past the arrows from j there is no hit
+  pub none-past : (i : ℕ) → i < length zs → j < getD zs i no-arrow .from → Missed i → Least (Leads zs n j) after None
+  none-past i inside past missed k above l =
+      elim (cases-order (l .place) i) [
+        | inl e ↦ let at : getD zs i no-arrow .from ≡ j = ap (λ (p : ℕ). getD zs p no-arrow .from) (sym e) ∙ l .from-is in omega arith
+        | inr (inl less) ↦ both-ways _ (missed (l .place) less) (hit-by k above l)
+        | inr (inr more) ↦
+            ⊎-elim (λ b. omega (arith, l .from-is)) (λ b. omega (arith, l .from-is, b .0))
+            (before-true (getD zs i no-arrow) (getD zs (l .place) no-arrow) (sorted i (l .place) (more, l .inside)))
+      ]
+
+  -- the first hit is the least
+  pub first-hit : (i : ℕ) → i < length zs → Within n j → hits n j after (getD zs i no-arrow) ≡ true → Missed i
+      → Least (Leads zs n j) after (Some (getD zs i no-arrow .to))
+  first-hit i inside step-j hit missed =
+      let w = hit-says (getD zs i no-arrow) hit in
+      let it : Leads zs n j (getD zs i no-arrow .to) = record {
+        place = i;
+        inside = inside;
         from-is = w .0;
         to-is = refl;
-        from-step = (w .1, w .2);
-        to-step = (omega (arith, w .3), w .4) } in
-      (w .3, it, λ k a b l.
-        ⊎-elim (none-below after (getD zs m no-arrow .to) best (w .5) h k a b) (λ e. omega (arith, e .1)) (leads-split k l))
+        from-step = step-j;
+        to-step = (omega (arith, w .1), w .2);
+      } in (
+        w .1,
+        it,
+        λ k above below l.
+            elim (cases-order (l .place) i) [
+              | inl e ↦ let at : getD zs i no-arrow .to ≡ k = ap (λ (p : ℕ). getD zs p no-arrow .to) (sym e) ∙ l .to-is in omega arith
+              | inr (inl less) ↦ both-ways _ (missed (l .place) less) (hit-by k above l)
+              | inr (inr more) ↦
+                  ⊎-elim (λ b. omega (arith, l .from-is, w .0)) (λ b. omega (arith, l .to-is, b .1))
+                  (before-true (getD zs i no-arrow) (getD zs (l .place) no-arrow) (sorted i (l .place) (more, l .inside)))
+            ],
+      )

@@ -39,18 +39,19 @@ cursor-after n m p = record {
   steps = n;
   «steps_left» = n - length (p .steps);
   «arrows_left» = m - length (p .arrows);
-  last = last-of no-arrow (p .arrows) }
+  last = last-of no-arrow (p .arrows);
+}
 
 -- the bytes xs begin with the stored form of p, which is without fault; `rest` is left
 pub data Front (xs : List ℕ) : List ℕ → Cursor → Plan → Type 0 where
   nothing-read : Front xs xs start no-plan
   read-so-far : {rest : List ℕ} {p : Plan} (n m : ℕ) → So-far n m p → xs ≡ form-of n m p ++ rest
-    → Front xs rest (cursor-after n m p) p
+      → Front xs rest (cursor-after n m p) p
 
 -- f is the first fault that stands in xs: in a record before which all is without fault; or, where all records are,
 -- the lowest step that has too many arrows or is not reached
 pub data First-fault (xs : List ℕ) : Fault → Type 0 where
   in-record : {rest : List ℕ} {c : Cursor} {p : Plan} {f : Fault} → Front xs rest c p
-    → firstOf (checks (expected c) rest c) ≡ Some f → First-fault xs f
+      → firstOf (checks (expected c) rest c) ≡ Some f → First-fault xs f
   in-step : {p : Plan} {k : ℕ} → Formed p → xs ≡ stored p → First-unfit (p .arrows) (length (p .steps)) k
-    → First-fault xs (record { cause = WrongStep; layer = Reader; place = k })
+      → First-fault xs (record { cause = WrongStep; layer = Reader; place = k })

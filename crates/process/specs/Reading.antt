@@ -67,7 +67,8 @@ step-of n = record {
   private = eqb (getD (unpack step-widths n) 2 0) 1;
   entry = flow-of (getD (unpack step-widths n) 3 0);
   exit = flow-of (getD (unpack step-widths n) 4 0);
-  kind = kind-of (getD (unpack step-widths n) 5 0) }
+  kind = kind-of (getD (unpack step-widths n) 5 0);
+}
 
 abbrev pub read-step : List ℕ → Named
 read-step xs = record { step = step-of (word2 xs); name = take (name-length xs) (drop 2 xs) }
@@ -106,9 +107,9 @@ checks ArrowRecord xs c =
     wrong (ltb (length xs) 2) WrongLength c
     ∷ wrong (ltb 0 (arrow-at xs 2)) WrongForm c
     ∷ wrong
-      (ltb (c .steps) (read-arrow xs .from) || (ltb (c .steps) (read-arrow xs .to)
-        || (eqb (read-arrow xs .to) 1 || not (before (c .last) (read-arrow xs)))))
-      WrongValue c
+    (ltb (c .steps) (read-arrow xs .from) || (ltb (c .steps) (read-arrow xs .to)
+    || (eqb (read-arrow xs .to) 1 || not (before (c .last) (read-arrow xs)))))
+    WrongValue c
     ∷ []
 checks NoRecord xs c = wrong (ltb 0 (length xs)) WrongLength c ∷ []
 
@@ -134,21 +135,24 @@ moved HeaderRecord xs c = record {
   steps = header-at xs 1;
   «steps_left» = header-at xs 1;
   «arrows_left» = header-at xs 2;
-  last = no-arrow }
+  last = no-arrow;
+}
 moved StepRecord xs c = record {
   place = c .place + (2 + name-length xs);
   begun = c .begun;
   steps = c .steps;
   «steps_left» = c .«steps_left» - 1;
   «arrows_left» = c .«arrows_left»;
-  last = c .last }
+  last = c .last;
+}
 moved ArrowRecord xs c = record {
   place = c .place + 2;
   begun = c .begun;
   steps = c .steps;
   «steps_left» = c .«steps_left»;
   «arrows_left» = c .«arrows_left» - 1;
-  last = read-arrow xs }
+  last = read-arrow xs;
+}
 moved NoRecord xs c = c
 
 -- one record read: what it says, the bytes after it, where the reader stands then
@@ -191,10 +195,10 @@ pub record First-unfit (zs : List Arrow) (n k : ℕ) : Type 0 where
 pub data Scans : List ℕ → Cursor → Plan → Result Plan Fault → Type 0 where
   declined : {xs : List ℕ} {c : Cursor} {p : Plan} {f : Fault} → next xs c ≡ Err f → Scans xs c p (Err f)
   more : {xs : List ℕ} {c : Cursor} {p : Plan} {r : Result Plan Fault} {i : Record} {ys : List ℕ} {d : Cursor}
-    → next xs c ≡ Ok (record { said = Some i; rest = ys; cursor = d })
-    → Scans ys d (with-record p i) r → Scans xs c p r
+      → next xs c ≡ Ok (record { said = Some i; rest = ys; cursor = d })
+      → Scans ys d (with-record p i) r → Scans xs c p r
   ended : {xs : List ℕ} {c : Cursor} {p : Plan} {ys : List ℕ} {d : Cursor}
-    → next xs c ≡ Ok (record { said = None; rest = ys; cursor = d }) → Scans xs c p (Ok p)
+      → next xs c ≡ Ok (record { said = None; rest = ys; cursor = d }) → Scans xs c p (Ok p)
 
 abbrev pub Scan : List ℕ → Result Plan Fault → Type 0
 Scan xs r = Scans xs start no-plan r
@@ -204,7 +208,7 @@ Scan xs r = Scans xs start no-plan r
 pub data Answer : List ℕ → Result Plan Fault → Type 0 where
   faulty : {xs : List ℕ} {f : Fault} → Scan xs (Err f) → Answer xs (Err f)
   unfit : {xs : List ℕ} {p : Plan} {k : ℕ} → Scan xs (Ok p) → First-unfit (p .arrows) (length (p .steps)) k
-    → Answer xs (Err (record { cause = WrongStep; layer = Reader; place = k }))
+      → Answer xs (Err (record { cause = WrongStep; layer = Reader; place = k }))
   accepted : {xs : List ℕ} {p : Plan} → Scan xs (Ok p)
-    → ((k : ℕ) → Within (length (p .steps)) k → Fine (p .arrows) (length (p .steps)) k)
-    → Answer xs (Ok p)
+      → ((k : ℕ) → Within (length (p .steps)) k → Fine (p .arrows) (length (p .steps)) k)
+      → Answer xs (Ok p)

@@ -4,24 +4,23 @@ use mathlib.Core.Bool.{Bool, true, false, _&&_}
 use mathlib.Core.List.{List}
 use Prim.Native.Nat.{ℕ, _<_, _≤_}
 use lib.Dec.{eqb, leb, ltb}
+use lib.ListN.{length, getD}
 use Rattle.std.specs.declared.option.Option.{Option}
 use Rattle.std.specs.declared.option.Option.the-variants.{Some, None}
 use Rattle.graph.specs.Column.{marked}
 use Rattle.graph.specs.Reach.{Within}
 use Rattle.process.specs.declared.parts.Arrow.{Arrow}
 use Rattle.process.specs.declared.parts.End.the-variants.{Tail, Head}
-use Rattle.process.specs.Stored.{ends-at, Fine}
-use Rattle.process.specs.Reading.{First-unfit}
+use Rattle.process.specs.Stored.{ends-at, Fine, no-arrow}
+use Rattle.process.specs.Reading.{before, First-unfit}
 
--- t is below what was found so far
-abbrev pub under : Option ℕ → ℕ → Bool
-under None t = true
-under (Some b) t = ltb t b
+-- each arrow comes before every later one
+abbrev pub Sorted : List Arrow → Type 0
+Sorted zs = (i j : ℕ) → (i < j) × (j < length zs) → before (getD zs i no-arrow) (getD zs j no-arrow) ≡ true
 
--- the arrow leads from step j of n steps to a step above `after` and below what was found so far
-abbrev pub better : ℕ → ℕ → ℕ → Option ℕ → Arrow → Bool
-better n j after best a =
-    eqb (a .from) j && (leb 1 j && (leb j n && (ltb after (a .to) && (leb (a .to) n && under best (a .to)))))
+-- the arrow leads from step j to a step above `after`, one of n
+abbrev pub hits : ℕ → ℕ → ℕ → Arrow → Bool
+hits n j after a = eqb (a .from) j && (ltb after (a .to) && leb (a .to) n)
 
 -- step k has at most 8 arrows out and 8 in, and is marked
 abbrev pub fine-by : List ℕ → List Arrow → ℕ → Bool

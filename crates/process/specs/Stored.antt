@@ -114,17 +114,14 @@ end-of Head a = a .to
 abbrev pub ends-at : End → List Arrow → ℕ → ℕ
 ends-at e zs k = countBy (λ a. eqb (end-of e a) k) zs
 
--- one of the first m arrows of the list leads from step j to step k, both of them among n steps
-pub record Leads-among (m : ℕ) (zs : List Arrow) (n j k : ℕ) : Type 0 where
+-- an arrow of the list leads from step j to step k, both of them among n steps
+pub record Leads (zs : List Arrow) (n j k : ℕ) : Type 0 where
   pub place : ℕ
-  pub inside : place < m
+  pub inside : place < length zs
   pub from-is : getD zs place no-arrow .from ≡ j
   pub to-is : getD zs place no-arrow .to ≡ k
   pub from-step : Within n j
   pub to-step : Within n k
-
-abbrev pub Leads : List Arrow → ℕ → ℕ → ℕ → Type 0
-Leads zs n j k = Leads-among (length zs) zs n j k
 
 -- arrows lead from step 1 to step k, or it is step 1
 abbrev pub Reachable : List Arrow → ℕ → ℕ → Type 0

@@ -40,8 +40,15 @@ pub(crate) enum End {
 /// One record of a stored process.
 #[derive(Drop)]
 pub enum Item<'a> {
-    Header { steps: u16, arrows: u16 },
+    Header {
+        steps: u16,
+        arrows: u16,
+    },
     /// `name` is that very part of the input, and `place` its first byte's place there.
-    Step { step: Step, name: &'a [u8], place: usize },
+    Step {
+        step: Step,
+        name: &'a [u8],
+        place: usize,
+    },
     Arrow(Arrow),
 }

@@ -22,7 +22,11 @@ use values::Layer;
 fn at(c: &Cursor, cause: Cause) -> Fault
     ensures { λ r. ⌜ r ≡ record { cause = cause; layer = Layer.Reader; place = now (c .entry) .place } ⌝ }
 {
-    Fault { cause, layer: Layer::Reader, place: c.place }
+    Fault {
+        cause,
+        layer: Layer::Reader,
+        place: c.place,
+    }
 }
 
 /// The header: how many steps and arrows there are.

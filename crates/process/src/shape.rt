@@ -5,9 +5,9 @@ ghost use lib.ListN.{length};
 ghost use denote.Ref.{now, name};
 ghost use Rattle.graph.specs.Column.{Kept};
 ghost use Rattle.graph.specs.Held.{held};
-ghost use Rattle.graph.specs.Reach.{Least};
+ghost use Rattle.graph.specs.Reach.{Within, Least};
 ghost use Rattle.process.specs.Stored.{end-of, ends-at, Leads};
-ghost use Rattle.process.specs.Shape.{better, fine-by, Lowest-unfit, Shaped};
+ghost use Rattle.process.specs.Shape.{Sorted, hits, fine-by, Lowest-unfit, Shaped};
 use crate::parts::Arrow;
 use crate::parts::End;
 use graph::marks::Marks;
@@ -16,9 +16,10 @@ use graph::reach::reach;
 
 /// The steps of a process as points, with its arrows.
 #[derive(Clone, Copy)]
-pub struct ArrowGraph<'a> {
-    pub steps: usize,
-    pub arrows: &'a [Arrow],
+struct ArrowGraph<'a> {
+    steps: usize,
+    arrows: &'a [Arrow],
+    ghost sorted: { Sorted (now arrows) },
 }
 
 fn end_of(end: End, a: &Arrow) -> u16
@@ -43,30 +44,29 @@ pub fn ends_at(end: End, arrows: &[Arrow], step: usize) -> usize
     n
 }
 
-/// Whether the arrow leads from `from` to a lower step above `after` than the best so far.
-fn is_better(a: &Arrow, steps: usize, from: usize, after: usize, best: Option<usize>) -> bool
-    ensures { λ r. ⌜ r ≡ better steps from after best (now (a .entry)) ⌝ }
+/// Whether the arrow leads from `from` to a step above `after`, one of `steps`.
+fn is_hit(a: &Arrow, steps: usize, from: usize, after: usize) -> bool
+    ensures { λ r. ⌜ r ≡ hits steps from after (now (a .entry)) ⌝ }
 {
     let to = a.to as usize;
-    if a.from as usize != from || from < 1 || from > steps || to <= after || to > steps {
-        return false;
-    }
-    match best {
-        None => true,
-        Some(b) => to < b,
-    }
+    a.from as usize == from && after < to && to <= steps
 }
 
+/// The least step above `after` that an arrow leads to: arrows rise, so the first hit is the least.
 fn least_target(arrows: &[Arrow], steps: usize, from: usize, after: usize) -> Option<usize>
+    requires sorted { ⌜ Sorted (now arrows) ⌝ }
+    requires from { ⌜ Within steps from ⌝ }
     ensures { λ r. ⌜ Least (Leads (now (arrows .entry)) steps from) after r ⌝ }
 {
-    let mut best = None;
     for a in arrows {
-        if is_better(a, steps, from, after, best) {
-            best = Some(a.to as usize);
+        if a.from as usize > from {
+            return None;
+        }
+        if is_hit(a, steps, from, after) {
+            return Some(a.to as usize);
         }
     }
-    best
+    None
 }
 
 impl Graph for ArrowGraph<'_> as ArrowsAsGraph {
@@ -81,6 +81,9 @@ impl Graph for ArrowGraph<'_> as ArrowsAsGraph {
     }
 
     fn next_target(&self, from: usize, after: usize) -> Option<usize> {
+        if from < 1 || from > self.steps {
+            return None;
+        }
         least_target(self.arrows, self.steps, from, after)
     }
 }
@@ -88,7 +91,9 @@ impl Graph for ArrowGraph<'_> as ArrowsAsGraph {
 fn is_fine(arrows: &[Arrow], marks: &Marks, step: usize) -> bool
     ensures { λ r. ⌜ r ≡ fine-by (held (now (marks .entry))) (now (arrows .entry)) step ⌝ }
 {
-    ends_at(End::Tail, arrows, step) <= 8 && ends_at(End::Head, arrows, step) <= 8 && marks.is_set(step)
+    ends_at(End::Tail, arrows, step) <= 8
+        && ends_at(End::Head, arrows, step) <= 8
+        && marks.is_set(step)
 }
 
 fn lowest_unfit(arrows: &[Arrow], steps: usize, marks: &Marks) -> Option<usize>
@@ -104,10 +109,16 @@ fn lowest_unfit(arrows: &[Arrow], steps: usize, marks: &Marks) -> Option<usize>
 }
 
 /// The lowest step that has more than 8 arrows out or in or is not reached from step 1.
-pub fn unfit_step(arrows: &[Arrow], steps: usize, marks: &mut Marks, line: &mut [u16]) -> Option<usize>
+pub fn unfit_step(
+    arrows: &[Arrow],
+    steps: usize,
+    marks: &mut Marks,
+    line: &mut [u16],
+) -> Option<usize>
     requires steps { ⌜ steps ≤ 64 ⌝ }
     requires column { ⌜ 257 ≤ length (held (now marks)) ⌝ }
     requires line { ⌜ 256 ≤ length (now line) ⌝ }
+    requires sorted { ⌜ Sorted (now arrows) ⌝ }
     ensures shaped { λ r. ⌜ Shaped (now (arrows .entry)) steps r ⌝ }
     ensures kept { λ _. ⌜ Kept (held (now (marks .entry))) (held (now (marks .exit))) ⌝ }
     ensures same { λ _. ⌜ name (now (marks .exit) .column) ≡ name (now (marks .entry) .column) ⌝ }

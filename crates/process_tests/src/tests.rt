@@ -65,7 +65,12 @@ fn with_memory(heap: Global, bytes: usize, numbers: usize) -> Result<(u8, [u8; 3
     if bytes > 300 || numbers > 300 {
         return Ok((0, [0; 3]));
     }
-    let number = match read(b"\x01\x02\x00\x00\x40\x10A", tables, &mut column[0..bytes], &mut line[0..numbers]) {
+    let number = match read(
+        b"\x01\x02\x00\x00\x40\x10A",
+        tables,
+        &mut column[0..bytes],
+        &mut line[0..numbers],
+    ) {
         Ok(_) => 0,
         Err(f) => f.cause.number(),
     };

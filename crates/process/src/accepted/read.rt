@@ -59,7 +59,12 @@ fn is_enough(column: &[u8], line: &[u16]) -> bool
 }
 
 /// Reads with memory enough: the records from left to right, and then the steps.
-fn read_with(input: &[u8], tables: Tables, marks: &mut Marks, line: &mut [u16]) -> Result<Process, Fault>
+fn read_with(
+    input: &[u8],
+    tables: Tables,
+    marks: &mut Marks,
+    line: &mut [u16],
+) -> Result<Process, Fault>
     requires column { ⌜ 257 ≤ length (held (now marks)) ⌝ }
     requires line { ⌜ 256 ≤ length (now line) ⌝ }
     ensures reading { λ r. ⌜ Reading (now (input .entry)) r ⌝ }
@@ -69,7 +74,11 @@ fn read_with(input: &[u8], tables: Tables, marks: &mut Marks, line: &mut [u16]) 
     let draft = filled(input, tables)?;
     let steps = draft.steps.len();
     match unfit_step(draft.arrows.as_slice(), steps, marks, line) {
-        Some(place) => Err(Fault { cause: Cause::WrongStep, layer: Layer::Reader, place }),
+        Some(place) => Err(Fault {
+            cause: Cause::WrongStep,
+            layer: Layer::Reader,
+            place,
+        }),
         None => Ok(Process::new(draft)),
     }
 }
@@ -77,24 +86,25 @@ fn read_with(input: &[u8], tables: Tables, marks: &mut Marks, line: &mut [u16]) 
 /// Reads a stored process into the tables.
 ///
 /// Wants a column of 257 bytes and a line of 256 numbers, and looks at no byte of the input before it has them.
-pub fn read(input: &[u8], tables: Tables, column: &mut [u8], line: &mut [u16]) -> Result<Process, Fault>
-    ensures short {
-        λ r. ⌜ (enough (length (now (column .entry))) (length (now (line .entry))) ≡ false → r ≡ Err short-memory) ⌝
-    }
-    ensures answer {
-        λ r. ⌜ (enough (length (now (column .entry))) (length (now (line .entry))) ≡ true → Reading (now (input .entry)) r) ⌝
-    }
-    ensures column {
-        λ _. ⌜ Left (enough (length (now (column .entry))) (length (now (line .entry))))
-            (now (column .entry)) (now (column .exit)) ⌝
-    }
-    ensures line {
-        λ _. ⌜ (enough (length (now (column .entry))) (length (now (line .entry))) ≡ false
-            → now (line .exit) ≡ now (line .entry)) ⌝
-    }
+pub fn read(
+    input: &[u8],
+    tables: Tables,
+    column: &mut [u8],
+    line: &mut [u16],
+) -> Result<Process, Fault>
+    ensures short { λ r. ⌜ (enough (length (now (column .entry))) (length (now (line .entry))) ≡ false → r ≡ Err short-memory) ⌝ }
+    ensures answer { λ r. ⌜ (enough (length (now (column .entry))) (length (now (line .entry))) ≡ true → Reading (now (input .entry)) r) ⌝ }
+    ensures column { λ _. ⌜ Left (enough (length (now (column .entry))) (length (now (line .entry))))
+        (now (column .entry)) (now (column .exit)) ⌝ }
+    ensures line { λ _. ⌜ (enough (length (now (column .entry))) (length (now (line .entry))) ≡ false
+        → now (line .exit) ≡ now (line .entry)) ⌝ }
 {
     if !is_enough(column, line) {
-        return Err(Fault { cause: Cause::ShortMemory, layer: Layer::Reader, place: 0 });
+        return Err(Fault {
+            cause: Cause::ShortMemory,
+            layer: Layer::Reader,
+            place: 0,
+        });
     }
     let mut marks = Marks::new(column);
     read_with(input, tables, &mut marks, line)

@@ -26,7 +26,10 @@ impl<'a> Reader<'a> {
             arrows_left: 0,
             last: Arrow { from: 0, to: 0 },
         };
-        Reader { rest: input, cursor }
+        Reader {
+            rest: input,
+            cursor,
+        }
     }
 
     fn header(&mut self) -> Result<Option<Item<'a>>, Fault>
@@ -58,7 +61,11 @@ impl<'a> Reader<'a> {
         self.rest = &rest[2 + len..];
         self.cursor.place = place + (2 + len);
         self.cursor.steps_left = self.cursor.steps_left.saturating_sub(1);
-        Ok(Some(Item::Step { step, name, place: place + 2 }))
+        Ok(Some(Item::Step {
+            step,
+            name,
+            place: place + 2,
+        }))
     }
 
     fn arrow(&mut self) -> Result<Option<Item<'a>>, Fault>
@@ -78,7 +85,11 @@ impl<'a> Reader<'a> {
         ensures { λ r. ⌜ told r ≡ said-by (next-of NoRecord (now (now (self .entry) .rest)) (now (self .entry) .cursor)) ⌝ }
     {
         if !self.rest.is_empty() {
-            return Err(Fault { cause: Cause::WrongLength, layer: Layer::Reader, place: self.cursor.place });
+            return Err(Fault {
+                cause: Cause::WrongLength,
+                layer: Layer::Reader,
+                place: self.cursor.place,
+            });
         }
         Ok(None)
     }

@@ -20,14 +20,17 @@ loop-a-again c =
     let here : Arrow → Bool = λ a. eqb (end-of (c .args .end) a) (c .args .step) in
     let came = c .end-of .ensures in
     elim (c .if-end-of-step .came) [
-      then-end-of-step w ↦
-        (w .n-is ∙ ap (λ n. n + 1) (c .loop-a .inv .0)
-          ∙ sym (countBy-more-yes here zs i no-arrow (c .loop-a-test .taken) (grind (arith, tells, w .if-end-of-step .taken))),
-         omega (arith, w .n-is, c .loop-a .inv .1))
-    | else-end-of-step w ↦
-        (w .n-is ∙ c .loop-a .inv .0
-          ∙ sym (countBy-more-no here zs i no-arrow (c .loop-a-test .taken) (grind (arith, tells, w .if-end-of-step .left))),
-         omega (arith, w .n-is, c .loop-a .inv .1)) ]
+      | then-end-of-step w ↦ (
+        w .n-is ∙ ap (λ n. n + 1) (c .loop-a .inv .0)
+            ∙ sym (countBy-more-yes here zs i no-arrow (c .loop-a-test .taken) (grind (arith, tells, w .if-end-of-step .taken))),
+        omega (arith, w .n-is, c .loop-a .inv .1),
+      )
+      | else-end-of-step w ↦ (
+        w .n-is ∙ c .loop-a .inv .0
+            ∙ sym (countBy-more-no here zs i no-arrow (c .loop-a-test .taken) (grind (arith, tells, w .if-end-of-step .left))),
+        omega (arith, w .n-is, c .loop-a .inv .1),
+      )
+    ]
 
 pub returns : need.returns
 returns c =

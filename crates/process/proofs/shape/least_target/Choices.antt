@@ -1,6 +1,10 @@
-use Rattle.graph.specs.Reach.{Least}
-use Rattle.process.specs.Stored.{Leads-among}
+use Prim.Native.Nat.{ℕ, _<_}
+use mathlib.Core.Path.{_≡_}
+use mathlib.Core.Bool.{false}
+use lib.ListN.{getD}
+use Rattle.process.specs.Stored.{no-arrow}
+use Rattle.process.specs.Shape.{hits}
 use Rattle.process.proofs.shape.least_target.Given as given
 
 abbrev pub Inv-loop-a : given.InvT-loop-a
-Inv-loop-a l = Least (Leads-among (l .a-index) (l .arrows) (l .steps) (l .from)) (l .after) (l .best)
+Inv-loop-a l = (p : ℕ) → p < l .a-index → hits (l .steps) (l .from) (l .after) (getD (l .arrows) p no-arrow) ≡ false

@@ -10,5 +10,6 @@ use Rattle.process.proofs.shape.lowest_unfit.Needs as need
 pub loop-step-again : need.loop-step-again
 loop-step-again c j lo hi =
     elim (cases-eq j (c .loop-step .step)) [
-      inl e ↦ ap (fine-by (held (c .args .marks .now)) (c .args .arrows .now)) e ∙ sym (c .is-fine .ensures) ∙ c .if-not-is-fine .left
-    | inr ne ↦ c .loop-step .inv j lo (omega arith) ]
+      | inl e ↦ ap (fine-by (held (c .args .marks .now)) (c .args .arrows .now)) e ∙ sym (c .is-fine .ensures) ∙ c .if-not-is-fine .left
+      | inr ne ↦ c .loop-step .inv j lo (omega arith)
+    ]

@@ -13,10 +13,11 @@ use Rattle.process.proofs.shape.unfit_step.Needs as need
 pub returns : need.returns
 returns c =
     let room : roomy (c .args .steps) (length (c .args .line .now)) (length (held (c .args .marks .now))) ≡ true =
-      grind (arith, tells) in
+    grind (arith, tells) in
     let ok : isOk (c .reach .result) ≡ true = c .reach .ensures .test ∙ room in
     let explored = at-ok _ _ (c .reach .result) ok (c .reach .ensures .explored) in
     record {
       shaped = shaped-from (c .args .arrows .now) (c .args .steps) _ _ explored _ (c .lowest-unfit .ensures);
       kept = record { rest = explored .rest; size = explored .size };
-      same = c .reach .ensures .same }
+      same = c .reach .ensures .same;
+    }

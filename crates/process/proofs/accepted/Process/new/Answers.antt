@@ -22,11 +22,18 @@ ghost-result c =
     let zs = vec-items (d .arrows) in
     let n = vec-len (d .steps) in
     let placed : All (Placed n) zs =
-      subst (λ (k : ℕ). All (Placed k) zs) (sym n-is)
-      (subst (λ (ys : List Arrow). All (Placed (length (p .steps))) ys) (sym zs-is) (formed .placed)) in
+    subst (λ (k : ℕ). All (Placed k) zs) (sym n-is)
+    (subst (λ (ys : List Arrow). All (Placed (length (p .steps))) ys) (sym zs-is) (formed .placed)) in
     let rising = subst (λ (ys : List Arrow). Rising no-arrow ys) (sym zs-is) (formed .rising) in
     let fine : (k : ℕ) → Within n k → Fine zs n k =
-      subst (λ (m : ℕ). (k : ℕ) → Within m k → Fine zs m k) (sym n-is)
-      (subst (λ (ys : List Arrow). (k : ℕ) → Within (length (p .steps)) k → Fine ys (length (p .steps)) k) (sym zs-is) (c .pre .sound .fine)) in
-    (omega (arith, formed .some-steps), (omega (arith, formed .few-steps), (omega (arith, formed .few-arrows),
-      (∣ placed ∣₁, (∣ rising ∣₁, (λ k w. fine k w .out-few, (λ k w. fine k w .in-few, (λ k w. ∣ fine k w .reached ∣₁, tt))))))))
+    subst (λ (m : ℕ). (k : ℕ) → Within m k → Fine zs m k) (sym n-is)
+    (subst (λ (ys : List Arrow). (k : ℕ) → Within (length (p .steps)) k → Fine ys (length (p .steps)) k) (sym zs-is) (c .pre .sound .fine)) in (
+      omega (arith, formed .some-steps),
+      (
+        omega (arith, formed .few-steps),
+        (
+          omega (arith, formed .few-arrows),
+          (∣ placed ∣₁, (∣ rising ∣₁, (λ k w. fine k w .out-few, (λ k w. fine k w .in-few, (λ k w. ∣ fine k w .reached ∣₁, tt))))),
+        ),
+      ),
+    )

@@ -26,12 +26,16 @@ returns c =
     let passed = answer-ok _ _ _ (c .in-Continue-arrow .ensures tt .answer) in
     let arrow : c .in-Continue-arrow .arrow ≡ read-arrow (now (self .rest)) = passed .1 in
     let d = hands-out ArrowRecord (now (self .rest)) (self .cursor) (stand self) _ _ (passed .0)
-      (λ i. Some (arrow-record (arrow i)))
-      (λ i. (part-from 2 (now (self .rest)) i, record {
+    (λ i. Some (arrow-record (arrow i)))
+    (λ i. (
+      part-from 2 (now (self .rest)) i,
+      record {
         place = self .cursor .place + 2;
         begun = self .cursor .begun;
         steps = self .cursor .steps;
         «steps_left» = self .cursor .«steps_left»;
         «arrows_left» = c .saturating-sub-self .ensures i;
-        last = arrow i })) in
+        last = arrow i;
+      },
+    )) in
     record { answer = d .0; after = d .1 }

@@ -28,12 +28,16 @@ returns c =
     let steps : c .in-Continue-steps .steps ≡ header-at (now (self .rest)) 1 = ap (λ (v : ℕ × ℕ). v .0) (passed .1) in
     let arrows : c .in-Continue-steps .arrows ≡ header-at (now (self .rest)) 2 = ap (λ (v : ℕ × ℕ). v .1) (passed .1) in
     let d = hands-out HeaderRecord (now (self .rest)) (self .cursor) (stand self) _ _ (passed .0)
-      (λ i. Some (header (steps i) (arrows i)))
-      (λ i. (part-from 4 (now (self .rest)) i, record {
+    (λ i. Some (header (steps i) (arrows i)))
+    (λ i. (
+      part-from 4 (now (self .rest)) i,
+      record {
         place = self .cursor .place + 4;
         begun = true;
         steps = steps i;
         «steps_left» = steps i;
         «arrows_left» = arrows i;
-        last = no-arrow })) in
+        last = no-arrow;
+      },
+    )) in
     record { answer = d .0; after = d .1 }

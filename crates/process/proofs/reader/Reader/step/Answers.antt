@@ -31,12 +31,16 @@ returns c =
     let len-is : (2 + c .in-Continue-step .len) - 2 ≡ c .in-Continue-step .len = omega arith in
     let name = ap (λ (n : ℕ). take n (drop 2 (now (self .rest)))) len-is in
     let d = hands-out StepRecord (now (self .rest)) (self .cursor) (stand self) _ _ (passed .0)
-      (λ i. Some (step (record { step = flags i; name = (name ∙ ap (λ (n : ℕ). take n (drop 2 (now (self .rest)))) len) i }) (self .cursor .place + 2)))
-      (λ i. ((part-from (2 + c .in-Continue-step .len) (now (self .rest)) ∙ ap (λ (n : ℕ). drop (2 + n) (now (self .rest))) len) i, record {
+    (λ i. Some (step (record { step = flags i; name = (name ∙ ap (λ (n : ℕ). take n (drop 2 (now (self .rest)))) len) i }) (self .cursor .place + 2)))
+    (λ i. (
+      (part-from (2 + c .in-Continue-step .len) (now (self .rest)) ∙ ap (λ (n : ℕ). drop (2 + n) (now (self .rest))) len) i,
+      record {
         place = self .cursor .place + (2 + len i);
         begun = self .cursor .begun;
         steps = self .cursor .steps;
         «steps_left» = c .saturating-sub-self .ensures i;
         «arrows_left» = self .cursor .«arrows_left»;
-        last = self .cursor .last })) in
+        last = self .cursor .last;
+      },
+    )) in
     record { answer = d .0; after = d .1 }
