@@ -1,4 +1,5 @@
 -- What the reader hands out, by the records that it stands for. Assumes nothing.
+use mathlib.Core.Path.{_≡_}
 use mathlib.Core.List.{List}
 use Prim.Native.Nat.{ℕ}
 use denote.Ref.{now}
@@ -8,10 +9,11 @@ use Rattle.std.specs.declared.result.Result.{Result}
 use Rattle.std.specs.declared.result.Result.the-variants.{Ok, Err}
 use Rattle.values.specs.declared.Fault.{Fault}
 use Rattle.process.specs.declared.cursor.Cursor.{Cursor}
+use Rattle.process.specs.declared.cursor.Expected.{Expected}
 use Rattle.process.specs.declared.parts.Item.{Item}
 use Rattle.process.specs.declared.parts.Item.the-variants.{Header, Step, Arrow}
 use Rattle.process.specs.declared.reader.Reader.{Reader}
-use Rattle.process.specs.Reading.{Record, header, step, arrow, Got}
+use Rattle.process.specs.Reading.{Record, header, step, arrow, Got, next-of}
 
 -- the record that an item hands out
 abbrev pub record-of : Item → Record
@@ -36,3 +38,8 @@ stand r = (now (r .rest), r .cursor)
 abbrev pub stand-after : Result Got Fault → List ℕ × Cursor → List ℕ × Cursor
 stand-after (Ok g) s = (g .rest, g .cursor)
 stand-after (Err f) s = s
+
+-- one record handed out: what the reader answers, and where it stands then
+pub record Handed (e : Expected) (before : Reader) (r : Result (Option Item) Fault) (after : Reader) : Type 0 where
+  pub answer : told r ≡ said-by (next-of e (now (before .rest)) (before .cursor))
+  pub stands : stand after ≡ stand-after (next-of e (now (before .rest)) (before .cursor)) (stand before)

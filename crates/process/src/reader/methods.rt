@@ -1,8 +1,8 @@
 // What the reader does.
 ghost use mathlib.Core.Path.{_≡_};
 ghost use Rattle.process.specs.declared.cursor.Expected.the-variants.{HeaderRecord, StepRecord, ArrowRecord, NoRecord};
-ghost use Rattle.process.specs.Items.{told, said-by, stand, stand-after};
-ghost use Rattle.process.specs.Reading.{next, next-of, start};
+ghost use Rattle.process.specs.Items.{told, said-by, stand, Handed};
+ghost use Rattle.process.specs.Reading.{next-of, start, expected};
 use super::Reader;
 use crate::cursor::Cursor;
 use crate::cursor::Expected;
@@ -33,8 +33,7 @@ impl<'a> Reader<'a> {
     }
 
     fn header(&mut self) -> Result<Option<Item<'a>>, Fault>
-        ensures answer { λ r. ⌜ told r ≡ said-by (next-of HeaderRecord (now (now (self .entry) .rest)) (now (self .entry) .cursor)) ⌝ }
-        ensures after { λ _. ⌜ stand (now (self .exit)) ≡ stand-after (next-of HeaderRecord (now (now (self .entry) .rest)) (now (self .entry) .cursor)) (stand (now (self .entry))) ⌝ }
+        ensures { λ r. ⌜ Handed HeaderRecord (now (self .entry)) r (now (self .exit)) ⌝ }
     {
         let (steps, arrows) = records::header(self.rest, &self.cursor)?;
         let rest = self.rest;
@@ -51,8 +50,7 @@ impl<'a> Reader<'a> {
     }
 
     fn step(&mut self) -> Result<Option<Item<'a>>, Fault>
-        ensures answer { λ r. ⌜ told r ≡ said-by (next-of StepRecord (now (now (self .entry) .rest)) (now (self .entry) .cursor)) ⌝ }
-        ensures after { λ _. ⌜ stand (now (self .exit)) ≡ stand-after (next-of StepRecord (now (now (self .entry) .rest)) (now (self .entry) .cursor)) (stand (now (self .entry))) ⌝ }
+        ensures { λ r. ⌜ Handed StepRecord (now (self .entry)) r (now (self .exit)) ⌝ }
     {
         let (step, len) = records::step(self.rest, &self.cursor)?;
         let rest = self.rest;
@@ -69,8 +67,7 @@ impl<'a> Reader<'a> {
     }
 
     fn arrow(&mut self) -> Result<Option<Item<'a>>, Fault>
-        ensures answer { λ r. ⌜ told r ≡ said-by (next-of ArrowRecord (now (now (self .entry) .rest)) (now (self .entry) .cursor)) ⌝ }
-        ensures after { λ _. ⌜ stand (now (self .exit)) ≡ stand-after (next-of ArrowRecord (now (now (self .entry) .rest)) (now (self .entry) .cursor)) (stand (now (self .entry))) ⌝ }
+        ensures { λ r. ⌜ Handed ArrowRecord (now (self .entry)) r (now (self .exit)) ⌝ }
     {
         let arrow = records::arrow(self.rest, &self.cursor)?;
         let rest = self.rest;
@@ -97,8 +94,7 @@ impl<'a> Reader<'a> {
     /// The next record, or `None` once there is none and no byte is left over; a fault leaves
     /// the reader where it stands.
     pub fn next(&mut self) -> Result<Option<Item<'a>>, Fault>
-        ensures answer { λ r. ⌜ told r ≡ said-by (next (now (now (self .entry) .rest)) (now (self .entry) .cursor)) ⌝ }
-        ensures after { λ _. ⌜ stand (now (self .exit)) ≡ stand-after (next (now (now (self .entry) .rest)) (now (self .entry) .cursor)) (stand (now (self .entry))) ⌝ }
+        ensures { λ r. ⌜ Handed (expected (now (self .entry) .cursor)) (now (self .entry)) r (now (self .exit)) ⌝ }
     {
         match self.cursor.expected() {
             Expected::HeaderRecord => self.header(),

@@ -28,8 +28,10 @@ impl Draft {
     /// Takes in one record more.
     fn take(&mut self, item: &Item)
         requires { ⌜ Room-for (record-of (now item)) (now self) ⌝ }
-        ensures steps { λ _. ⌜ vec-len (now (self .exit) .steps) ≡ vec-len (now (self .entry) .steps) + step-more (record-of (now (item .entry))) ⌝ }
-        ensures arrows { λ _. ⌜ vec-len (now (self .exit) .arrows) ≡ vec-len (now (self .entry) .arrows) + arrow-more (record-of (now (item .entry))) ⌝ }
+        ensures steps { λ _. ⌜ vec-len (now (self .exit) .steps)
+            ≡ vec-len (now (self .entry) .steps) + step-more (record-of (now (item .entry))) ⌝ }
+        ensures arrows { λ _. ⌜ vec-len (now (self .exit) .arrows)
+            ≡ vec-len (now (self .entry) .arrows) + arrow-more (record-of (now (item .entry))) ⌝ }
         ensures bare { λ _. ⌜ bare (now (self .exit)) ≡ bare-with (bare (now (self .entry))) (record-of (now (item .entry))) ⌝ }
     {
         match item {

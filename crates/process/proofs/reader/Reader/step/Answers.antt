@@ -14,13 +14,16 @@ use Rattle.process.specs.Items.{stand}
 use Rattle.process.proofs.Nexts.{answer-ok, answer-err, declines, hands-out, part-from}
 use Rattle.process.proofs.reader.Reader.step.Needs as need
 
+less-two : (n : ℕ) → (2 + n) - 2 ≡ n
+less-two n = omega arith
+
 pub returns-in-Break-step : need.returns-in-Break-step
 returns-in-Break-step c =
     let self = c .args .self .now in
     let p = err-from-errBy (c .from-residual .result) (c .from-residual .ensures .1) in
     let stood = answer-err _ _ _ (c .in-Break-step .ensures tt .answer) in
     let d = declines StepRecord (now (self .rest)) (self .cursor) (stand self) _ _ _ (p .1) (p .2) stood in
-    record { answer = d .0; after = d .1 }
+    record { answer = d .0; stands = d .1 }
 
 pub returns : need.returns
 returns c =
@@ -28,7 +31,7 @@ returns c =
     let passed = answer-ok _ _ _ (c .in-Continue-step .ensures tt .answer) in
     let flags : c .in-Continue-step .step ≡ step-of (word2 (now (self .rest))) = ap (λ (v : Step × ℕ). v .0) (passed .1) in
     let len : c .in-Continue-step .len ≡ name-length (now (self .rest)) = ap (λ (v : Step × ℕ). v .1) (passed .1) in
-    let len-is : (2 + c .in-Continue-step .len) - 2 ≡ c .in-Continue-step .len = omega arith in
+    let len-is = less-two (c .in-Continue-step .len) in
     let name = ap (λ (n : ℕ). take n (drop 2 (now (self .rest)))) len-is in
     let d = hands-out StepRecord (now (self .rest)) (self .cursor) (stand self) _ _ (passed .0)
     (λ i. Some (step (record { step = flags i; name = (name ∙ ap (λ (n : ℕ). take n (drop 2 (now (self .rest)))) len) i }) (self .cursor .place + 2)))
@@ -43,4 +46,4 @@ returns c =
         last = self .cursor .last;
       },
     )) in
-    record { answer = d .0; after = d .1 }
+    record { answer = d .0; stands = d .1 }
