@@ -1,4 +1,3 @@
 pub mod Numbers
 pub mod Texts
 pub mod Checks
-pub mod Search
