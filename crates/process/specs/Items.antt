@@ -40,6 +40,6 @@ stand-after (Ok g) s = (g .rest, g .cursor)
 stand-after (Err f) s = s
 
 -- one record handed out: what the reader answers, and where it stands then
-pub record Handed (e : Expected) (before : Reader) (r : Result (Option Item) Fault) (after : Reader) : Type 0 where
+pub record Handed (e : Expected) (before : Reader) (r : Result (Option Item) Fault) (later : Reader) : Type 0 where
   pub answer : told r ≡ said-by (next-of e (now (before .rest)) (before .cursor))
-  pub stands : stand after ≡ stand-after (next-of e (now (before .rest)) (before .cursor)) (stand before)
+  pub after : stand later ≡ stand-after (next-of e (now (before .rest)) (before .cursor)) (stand before)

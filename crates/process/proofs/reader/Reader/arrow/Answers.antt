@@ -18,7 +18,7 @@ returns-in-Break-arrow c =
     let p = err-from-errBy (c .from-residual .result) (c .from-residual .ensures .1) in
     let stood = answer-err _ _ _ (c .in-Break-arrow .ensures tt .answer) in
     let d = declines ArrowRecord (now (self .rest)) (self .cursor) (stand self) _ _ _ (p .1) (p .2) stood in
-    record { answer = d .0; stands = d .1 }
+    record { answer = d .0; after = d .1 }
 
 pub returns : need.returns
 returns c =
@@ -38,4 +38,4 @@ returns c =
         last = arrow i;
       },
     )) in
-    record { answer = d .0; stands = d .1 }
+    record { answer = d .0; after = d .1 }

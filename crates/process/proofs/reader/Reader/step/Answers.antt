@@ -23,7 +23,7 @@ returns-in-Break-step c =
     let p = err-from-errBy (c .from-residual .result) (c .from-residual .ensures .1) in
     let stood = answer-err _ _ _ (c .in-Break-step .ensures tt .answer) in
     let d = declines StepRecord (now (self .rest)) (self .cursor) (stand self) _ _ _ (p .1) (p .2) stood in
-    record { answer = d .0; stands = d .1 }
+    record { answer = d .0; after = d .1 }
 
 pub returns : need.returns
 returns c =
@@ -46,4 +46,4 @@ returns c =
         last = self .cursor .last;
       },
     )) in
-    record { answer = d .0; stands = d .1 }
+    record { answer = d .0; after = d .1 }

@@ -37,7 +37,7 @@ pub take-requires : need.take-requires
 take-requires c κs =
     let told-it = c .in-Continue-item .ensures tt in
     let e = handed-out _ (stand (c .loop-draft .reader)) (stand (c .next .last .self)) _ _
-    (told-it .answer) (told-it .stands) (c .in-Some .is) in
+    (told-it .answer) (told-it .after) (c .in-Some .is) in
     let w = onward _ _ _ _ (c .loop-draft .inv .room) _ _ _ e in
     (w .steps-fit, w .arrows-fit)
 
@@ -45,14 +45,14 @@ pub loop-draft-less : need.loop-draft-less
 loop-draft-less c =
     let told-it = c .in-Continue-item .ensures tt in
     let e = handed-out _ (stand (c .loop-draft .reader)) (stand (c .next .last .self)) _ _
-    (told-it .answer) (told-it .stands) (c .in-Some .is) in
+    (told-it .answer) (told-it .after) (c .in-Some .is) in
     onward _ _ _ _ (c .loop-draft .inv .room) _ _ _ e .shorter
 
 pub loop-draft-again : need.loop-draft-again
 loop-draft-again c =
     let told-it = c .in-Continue-item .ensures tt in
     let e = handed-out _ (stand (c .loop-draft .reader)) (stand (c .next .last .self)) _ _
-    (told-it .answer) (told-it .stands) (c .in-Some .is) in
+    (told-it .answer) (told-it .after) (c .in-Some .is) in
     let took = c .take .ensures in
     partly-more (c .loop-draft .inv) (record-of (c .in-Some .item)) e (took .bare) (took .steps) (took .arrows)
 
@@ -61,7 +61,7 @@ returns c =
     let told-it = c .in-Continue-item .ensures tt in
     let none : c .in-Continue-item .field-0 ≡ None = c .in-rest .is in
     let e = read-end _ (stand (c .loop-draft .reader)) (stand (c .next .last .self))
-    (sym (ap (λ (o : Option Item). told (Ok o)) none) ∙ told-it .answer) (told-it .stands) in
+    (sym (ap (λ (o : Option Item). told (Ok o)) none) ∙ told-it .answer) (told-it .after) in
     record {
       plan = c .loop-draft .inv .plan;
       scan = partly-ended (c .loop-draft .inv) e;
