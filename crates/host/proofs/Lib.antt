@@ -1,0 +1,4 @@
+pub mod Ext
+pub mod Joined
+pub mod Along
+pub mod Checks

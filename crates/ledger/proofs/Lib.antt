@@ -1,0 +1,5 @@
+pub mod Last
+pub mod Sums
+pub mod Added
+pub mod Shows
+pub mod Written
