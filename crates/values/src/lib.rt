@@ -5,6 +5,8 @@ ghost use Rattle.values.specs.Numbers.{same-state, same-host-state, same-phase
 
 mod texts;
 
+pub use texts::FaultDisplay;
+
 /// What an entry counts: a score in tenths, or a fee in pence.
 #[derive(Clone, Copy, PartialEq, Eq, Debug, Drop)]
 pub enum Kind {

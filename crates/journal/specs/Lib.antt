@@ -1,0 +1,5 @@
+pub mod Text
+pub mod Settings
+pub mod Spelled
+pub mod Outcomes
+pub mod Names

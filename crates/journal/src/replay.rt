@@ -1,0 +1,34 @@
+// A whole journal: it is read, its process is read, and what came of it is told.
+use crate::Journal;
+use crate::names::blank_lines;
+use crate::outcomes::Outcome;
+use crate::outcomes::blank_summary;
+use crate::settings::parse;
+use process::tables::Tables;
+use std::alloc::AllocError;
+use std::alloc::Global;
+
+/// Reads the text of a journal, and tells what came of it: what to print, what to report, and whether it was replayed.
+pub fn run(heap: Global, text: &[u8]) -> Result<Outcome, AllocError> {
+    match parse(heap, text)? {
+        Ok(journal) => replay_blank(heap, &journal),
+        Err(unreadable) => Outcome::unread(heap, &unreadable),
+    }
+}
+
+// Replays a journal from a blank sheet.
+fn replay_blank(heap: Global, journal: &Journal) -> Result<Outcome, AllocError> {
+    let stored = journal.process.as_slice();
+    let tables = Tables::new(heap)?;
+    let mut column = vec![in heap; 0u8; 257]?;
+    let mut line = vec![in heap; 0u16; 256]?;
+    match process::read(stored, tables, column.as_mut_slice(), line.as_mut_slice()) {
+        Ok(process) => {
+            let steps = process.steps().len();
+            let arrows = process.arrows().len();
+            let lines = blank_lines(heap, stored, steps + 1)?;
+            Outcome::replayed(heap, journal.process_line, arrows, &blank_summary(lines))
+        }
+        Err(fault) => Outcome::declined(heap, journal.process_line, fault),
+    }
+}
