@@ -35,7 +35,8 @@ length-ring xs h c s =
     (elim (cases-lt 0 (length xs)) [ inl p ↦ omega (arith, s .fits, s .within p) | inr z ↦ omega (arith, s .fits) ])
 
 -- a write at the place after the last leaves the elements of the ring
-pub kept-at : {X : Type 0} (xs : List X) (h c p k : ℕ) (x d : X) → Sound (length xs) h c → c < length xs → Spot (length xs) (h + c) p → k < c →
+pub kept-at : {X : Type 0} (xs : List X) (h c p k : ℕ) (x d : X) → Sound (length xs) h c → c < length xs →
+    Spot (length xs) (h + c) p → k < c →
     getD (set xs p x ++ set xs p x) (h + k) d ≡ getD (xs ++ xs) (h + k) d
 kept-at xs h c p k x d s lt sp kc =
     elim (cases-lt (h + k) (length xs)) [
@@ -43,7 +44,8 @@ kept-at xs h c p k x d s lt sp kc =
           ∙ getD-set-other xs p (h + k) x d (elim (sp .is) [ inl e ↦ λ q. omega arith | inr e ↦ λ q. omega arith ])
           ∙ sym (twice-low xs (h + k) d low)
       | inr high ↦ twice-high (set xs p x) (h + k) (h + k - length xs) d (simp length-set (omega arith))
-          ∙ getD-set-other xs p (h + k - length xs) x d (elim (sp .is) [ inl e ↦ λ q. omega (arith, sp .inside) | inr e ↦ λ q. omega arith ])
+          ∙ getD-set-other xs p (h + k - length xs) x d
+          (elim (sp .is) [ inl e ↦ λ q. omega (arith, sp .inside) | inr e ↦ λ q. omega arith ])
           ∙ sym (twice-high xs (h + k) (h + k - length xs) d (omega arith))
     ]
 

@@ -9,7 +9,8 @@ use lib.ListN.{length, getD, set}
 use native.Mathlib.Omega.{arith}
 use Rattle.std.proofs.shelf.Lists.{length-push}
 use Rattle.std.proofs.shelf.Tests.{cases-lt, cases-eq, cases-bool, both-ways, cond-true, cond-false, and-parts, leb-true}
-use Rattle.graph.proofs.Columns.{below-count, below-size, kept-set, kept-then, marked-here, marked-other, marked-set, plain-set, unmarked-wiped, plain-wiped}
+use Rattle.graph.proofs.Columns.{below-count, below-size, kept-set, kept-then, marked-here, marked-other, marked-set}
+use Rattle.graph.proofs.Columns.{plain-set, unmarked-wiped, plain-wiped}
 use Rattle.graph.specs.Column.{mark-count, covered, marked, Marked, Kept, Wiped}
 use Rattle.graph.specs.Reach.{Within, Start, Reached, start, step, Explored, roomy}
 use Rattle.graph.specs.Search.{In, here, there, unmarked, column-with, line-with, Grown, Search}
@@ -170,6 +171,10 @@ module _ (Arrow : ℕ → ℕ → Type 0) (Starts : ℕ → Type 0) (n : ℕ) wh
       fresh : (k : ℕ) → Marked xs k → Starts k × In k ws
       fresh k m = ⊎-elim (λ y. absurd (both-ways (marked xs₀ k) (unmarked-wiped k clean) y)) (λ f. f) (p .news k m)
 
+  -- the same where an equal list waits
+  pub search-at : (xs us vs : List ℕ) → us ≡ vs → Search Arrow Starts n xs us → Search Arrow Starts n xs vs
+  search-at xs us vs e s = let P : List ℕ → Type 0 = Search Arrow Starts n xs in subst P e s
+
   -- the first in line is gone through
   pub search-more : (p : ℕ) (xs ws ys vs : List ℕ) → Search Arrow Starts n xs (p ∷ ws) → Grown (Arrow p) n xs ws ys vs →
       ((q : ℕ) → Arrow p q → Marked ys q) → Search Arrow Starts n ys vs
@@ -210,11 +215,9 @@ search-from Arrow {xs₀ = xs₀} m n starts xs ws e f clean p all =
     let Q : List ℕ → Type 0 = λ u. Grown (Start m starts) m xs₀ u xs ws in
     subst P e (search-begun Arrow (Start m starts) m xs ws clean (subst Q f p) all)
 
--- the search where an equal list waits
-pub search-at : {Arrow : ℕ → ℕ → Type 0} {Starts : ℕ → Type 0} {n : ℕ} {xs us vs : List ℕ} → us ≡ vs →
-    Search Arrow Starts n xs us → Search Arrow Starts n xs vs
-search-at {Arrow = Arrow} {Starts = Starts} {n = n} {xs = xs} e s =
-    let P : List ℕ → Type 0 = Search Arrow Starts n xs in subst P e s
+-- three equations in a row, where what they join is written out
+pub three-steps : {A : Type 0} (a b c d : A) → a ≡ b → b ≡ c → c ≡ d → a ≡ d
+three-steps a b c d p q r = p ∙ q ∙ r
 
 -- each start is marked, once those at all places are
 pub starts-marked : (n : ℕ) (starts ys : List ℕ) →

@@ -1,4 +1,4 @@
--- Points and arrows, what is reached along them, and what a search for it leaves in a column.
+-- Points and arrows, what is reached along them, and what a traversal leaves in a column.
 use Prim.Native.Nat.{ℕ, _<_, _≤_}
 use mathlib.Core.Path.{_≡_}
 use mathlib.Core.Bool.{Bool, _&&_}
@@ -27,12 +27,12 @@ pub data Reached (Arrow : ℕ → ℕ → Type 0) (Starts : ℕ → Type 0) : �
   start : {k : ℕ} → Starts k → Reached Arrow Starts k
   step : {j k : ℕ} → Reached Arrow Starts j → Arrow j k → Reached Arrow Starts k
 
--- whether there is room to search a graph of `points` points: a place in a line of `places` for each point, and a
+-- whether there is room to traverse a graph of `points` points: a place in a line of `places` for each point, and a
 -- mark in a column of `bytes` for each
 abbrev pub roomy : ℕ → ℕ → ℕ → Bool
 roomy points places bytes = leb points places && covered bytes points
 
--- a search went through the whole graph, in the column that was `before`, and is `after`
+-- a traversal went through the whole graph, in the column that was `before`, and is `after`
 pub record Explored (Arrow : ℕ → ℕ → Type 0) (Starts : ℕ → Type 0) (before after : List ℕ) : Type 0 where
   -- each marked point is reached
   pub sound : (k : ℕ) → Marked after k → Reached Arrow Starts k

@@ -1,4 +1,4 @@
--- What holds inside a search, between one point and the next. `xs` is the column, `ws` the points that wait.
+-- What holds inside a traversal, between one point and the next. `xs` is the column, `ws` the points that wait.
 use Prim.Native.Nat.{ℕ, zero, suc, _+_, _≤_}
 use mathlib.Core.Path.{_≡_}
 use mathlib.Core.Bool.{cond}

@@ -34,7 +34,7 @@ pub trait Graph {
 #[derive(Drop, Debug, Clone, Copy, PartialEq)]
 pub struct NoRoom;
 
-/// Whether there is room to search a graph of `points` points.
+/// Whether there is room to traverse a graph of `points` points.
 fn has_room(points: usize, line: &[u16], marks: &Marks) -> bool
     ensures { λ r. ⌜ r ≡ roomy points (length (now (line .entry))) (length (held (now (marks .entry)))) ⌝ }
 {

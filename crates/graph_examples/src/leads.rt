@@ -1,4 +1,4 @@
-//! A question about any graph, asked through the search.
+//! A question about any graph, asked through its traversal.
 ghost use mathlib.Core.Path.{_≡_};
 ghost use lib.ListN.{length};
 ghost use Rattle.graph.specs.Column.{Wiped};

@@ -1,3 +1,3 @@
-//! Tests of the search, of the column and of the queue.
+//! Tests of the traversal, of the column and of the queue.
 #[cfg(test)]
 mod tests;

@@ -1,4 +1,4 @@
-//! Tests of the search, of the column and of the queue.
+//! Tests of the traversal, of the column and of the queue.
 use graph::marks::Marks;
 use graph::queue::Queue;
 use graph::reach::NoRoom;
@@ -52,7 +52,7 @@ fn agrees(marks: &Marks, wanted: &[bool]) -> bool {
     true
 }
 
-/// Whether a search from `starts`, among six points, marks exactly what `wanted` has.
+/// Whether a traversal from `starts`, among six points, marks exactly what `wanted` has.
 fn marks_exactly(starts: &[u16], wanted: &[bool]) -> bool {
     let g = ArrowList {
         points: 6,
@@ -64,7 +64,7 @@ fn marks_exactly(starts: &[u16], wanted: &[bool]) -> bool {
     reach(&g, starts, &mut marks, &mut line) == Ok(()) && agrees(&marks, wanted)
 }
 
-/// Whether a search with too short a line is refused, and leaves the marks.
+/// Whether a traversal with too short a line is refused, and leaves the marks.
 fn refuses_a_short_line() -> bool {
     let mut column = [9u8; 257];
     let mut line = [0u16; 3];

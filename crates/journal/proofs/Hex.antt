@@ -25,7 +25,7 @@ paired-more ds xs i y l e h =
     let second = at-drop-more (λ r. paired (high ∷ r)) ds (2 * i + 1) 0 l in
     let next : 2 * i + 1 + 1 ≡ 2 * (i + 1) = omega arith in
     let both : paired (drop (2 * i) ds) ≡ y ∷ paired (drop (2 * (i + 1)) ds)
-        = first ∙ second ∙ ap₂ (λ b n. b ∷ paired (drop n ds)) (sym e) next in
+    = first ∙ second ∙ ap₂ (λ b n. b ∷ paired (drop n ds)) (sym e) next in
     append-assoc xs (y ∷ []) _ ∙ ap (λ t. xs ++ t) (sym both) ∙ h
 
 -- a digit left over makes no byte

@@ -55,7 +55,7 @@ module _ (s : Settings) (n : ℕ) (text : List ℕ) (from i : ℕ) where
   left-line in′ is-feed =
       let start : 0 ≡ i + 1 - (i + 1) = omega arith in
       let on : ℕ → Result Contents Unreadable
-          = λ k. andThen (after-line n (trimmed (take (i - from) (drop from text))) s) (λ t. read-on t (n + 1) (lines-after (take k (drop (i + 1) text)) (drop (i + 1) text))) in
+      = λ k. andThen (after-line n (trimmed (take (i - from) (drop from text))) s) (λ t. read-on t (n + 1) (lines-after (take k (drop (i + 1) text)) (drop (i + 1) text))) in
       at-drop-more (λ r. read-on s n (lines-after (take (i - from) (drop from text)) r)) text i 0 in′
       ∙ ap (read-on s n) (feed (take (i - from) (drop from text)) (getD text i 0) (drop (i + 1) text) is-feed) ∙ ap on start
 

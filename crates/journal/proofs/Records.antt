@@ -44,7 +44,7 @@ module _ (k i : ℕ) (xs : List ℕ) (c : Cursor) (lines whole : List (List ℕ 
   one-more it s said after new-is =
       let rest = handed (k - (i + 1)) (s .0) (s .1) in
       let told = unrolled ∙ some-record (next xs c) (xs, c) it (handed (k - (i + 1))) said
-          ∙ ap (λ t. line-before it (handed (k - (i + 1)) (t .0) (t .1))) (sym after) ∙ before-append it rest in
+      ∙ ap (λ t. line-before it (handed (k - (i + 1)) (t .0) (t .1))) (sym after) ∙ before-append it rest in
       ap (λ n. n ++ rest) new-is ∙ append-assoc lines (line-before it []) rest ∙ ap (λ t. lines ++ t) (sym told) ∙ inv
 
   ends : handed (k - i) xs c ≡ [] → lines ≡ whole

@@ -3,3 +3,4 @@ pub mod Settings
 pub mod Spelled
 pub mod Outcomes
 pub mod Names
+pub mod Run

@@ -29,7 +29,12 @@ pub impl fmt::Display for Answer as AnswerDisplay {
 }
 
 /// The line that is printed of an answer: the number of the journal's line, its first word, and the answer.
-pub(crate) fn answer_line(heap: Global, line: usize, word: &str, answer: &Answer) -> Result<String, AllocError>
+pub(crate) fn answer_line(
+    heap: Global,
+    line: usize,
+    word: &str,
+    answer: &Answer,
+) -> Result<String, AllocError>
     ensures { λ r. ⌜ made r (λ t. string-bytes t ≡ answer-line line (now (word .entry)) (now (answer .entry))) ⌝ }
 {
     format!(heap, "{line} {word}: {answer}\n")

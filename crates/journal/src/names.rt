@@ -20,7 +20,11 @@ fn blank_line(heap: Global, private: bool, name: &[u8]) -> Result<StepLine, Allo
     ensures { λ r. ⌜ made r (λ x. line-shown x ≡ blank-line private (now (name .entry))) ⌝ }
 {
     let name = printable_name(heap, name)?;
-    let standing = if private { Standing::Private } else { Standing::Shown(RowState::Absent) };
+    let standing = if private {
+        Standing::Private
+    } else {
+        Standing::Shown(RowState::Absent)
+    };
     Ok(StepLine { name, standing })
 }
 
@@ -35,7 +39,11 @@ fn add_line(heap: Global, lines: &mut Vec<StepLine>, item: Item<'_>) -> Result<(
 }
 
 // The lines of the steps among the first records that the bytes store.
-pub(crate) fn blank_lines(heap: Global, stored: &[u8], records: usize) -> Result<Vec<StepLine>, AllocError>
+pub(crate) fn blank_lines(
+    heap: Global,
+    stored: &[u8],
+    records: usize,
+) -> Result<Vec<StepLine>, AllocError>
     ensures { λ r. ⌜ made r (λ v. map line-shown (vec-items v) ≡ handed records (now (stored .entry)) start) ⌝ }
 {
     let mut lines = Vec::new(heap);

@@ -30,7 +30,11 @@ impl Outcome {
         ensures { λ r. ⌜ made r (λ x. shown x ≡ unread (now (unreadable .entry))) ⌝ }
     {
         let reported = format!(heap, "{unreadable}\n")?;
-        Ok(Outcome { printed: String::new(heap), reported, accepted: false })
+        Ok(Outcome {
+            printed: String::new(heap),
+            reported,
+            accepted: false,
+        })
     }
 
     // A process that the reader declines: only its line is printed.
@@ -38,18 +42,31 @@ impl Outcome {
         ensures { λ r. ⌜ made r (λ x. shown x ≡ declined line fault) ⌝ }
     {
         let printed = answer_line(heap, line, "process", &Answer::Declined(fault))?;
-        Ok(Outcome { printed, reported: String::new(heap), accepted: false })
+        Ok(Outcome {
+            printed,
+            reported: String::new(heap),
+            accepted: false,
+        })
     }
 
     // A journal that was replayed: the process, and the summary.
-    pub(crate) fn replayed(heap: Global, line: usize, arrows: usize, summary: &Summary) -> Result<Outcome, AllocError>
+    pub(crate) fn replayed(
+        heap: Global,
+        line: usize,
+        arrows: usize,
+        summary: &Summary,
+    ) -> Result<Outcome, AllocError>
         ensures { λ r. ⌜ made r (λ x. shown x ≡ replayed line arrows (now (summary .entry))) ⌝ }
     {
         let steps = summary.steps.len();
         let process = answer_line(heap, line, "process", &Answer::Process { steps, arrows })?;
         let summary = summary.render(heap)?;
         let printed = format!(heap, "{process}{summary}")?;
-        Ok(Outcome { printed, reported: String::new(heap), accepted: true })
+        Ok(Outcome {
+            printed,
+            reported: String::new(heap),
+            accepted: true,
+        })
     }
 }
 
@@ -57,6 +74,22 @@ impl Outcome {
 pub(crate) fn blank_summary(steps: Vec<StepLine>) -> Summary
     ensures { λ r. ⌜ r ≡ blank steps ⌝ }
 {
-    let rows = RowCounts { all: 0, running: 0, committed: 0, dropped: 0, due: 0, undone: 0, passed_over: 0 };
-    Summary { calls: 0, accepted: 0, declined: 0, phase: Phase::Forward, rollbacks: 0, rows, steps }
+    let rows = RowCounts {
+        all: 0,
+        running: 0,
+        committed: 0,
+        dropped: 0,
+        due: 0,
+        undone: 0,
+        passed_over: 0,
+    };
+    Summary {
+        calls: 0,
+        accepted: 0,
+        declined: 0,
+        phase: Phase::Forward,
+        rollbacks: 0,
+        rows,
+        steps,
+    }
 }

@@ -1,4 +1,8 @@
 // A whole journal: it is read, its process is read, and what came of it is told.
+ghost use Rattle.std.specs.Of.Vec.{vec-items};
+ghost use Rattle.std.specs.Vec.{made};
+ghost use Rattle.journal.specs.Run.{Ran, Process-told};
+ghost use Rattle.journal.specs.Settings.{journal};
 use crate::Journal;
 use crate::names::blank_lines;
 use crate::outcomes::Outcome;
@@ -9,7 +13,9 @@ use std::alloc::AllocError;
 use std::alloc::Global;
 
 /// Reads the text of a journal, and tells what came of it: what to print, what to report, and whether it was replayed.
-pub fn run(heap: Global, text: &[u8]) -> Result<Outcome, AllocError> {
+pub fn run(heap: Global, text: &[u8]) -> Result<Outcome, AllocError>
+    ensures { λ r. ⌜ made r (Ran (journal (now (text .entry)))) ⌝ }
+{
     match parse(heap, text)? {
         Ok(journal) => replay_blank(heap, &journal),
         Err(unreadable) => Outcome::unread(heap, &unreadable),
@@ -17,12 +23,14 @@ pub fn run(heap: Global, text: &[u8]) -> Result<Outcome, AllocError> {
 }
 
 // Replays a journal from a blank sheet.
-fn replay_blank(heap: Global, journal: &Journal) -> Result<Outcome, AllocError> {
+fn replay_blank(heap: Global, journal: &Journal) -> Result<Outcome, AllocError>
+    ensures { λ r. ⌜ made r (Process-told (vec-items (now (journal .entry) .process)) (now (journal .entry) .«process_line»)) ⌝ }
+{
     let stored = journal.process.as_slice();
     let tables = Tables::new(heap)?;
-    let mut column = vec![in heap; 0u8; 257]?;
-    let mut line = vec![in heap; 0u16; 256]?;
-    match process::read(stored, tables, column.as_mut_slice(), line.as_mut_slice()) {
+    let mut column = [0; 257];
+    let mut line = [0; 256];
+    match process::read(stored, tables, &mut column, &mut line) {
         Ok(process) => {
             let steps = process.steps().len();
             let arrows = process.arrows().len();

@@ -16,8 +16,8 @@ use crate::text::decode;
 use crate::text::every;
 use crate::text::is;
 use crate::text::is_comment;
-use crate::text::short_number;
 use crate::text::only_word;
+use crate::text::short_number;
 use crate::text::split_word;
 use crate::text::trimmed;
 use std::alloc::AllocError;
@@ -113,7 +113,12 @@ impl Draft {
     fn new() -> Draft
         ensures { λ r. ⌜ sofar r ≡ no-settings ⌝ }
     {
-        Draft { process: None, serial: None, scores: None, ledger: None }
+        Draft {
+            process: None,
+            serial: None,
+            scores: None,
+            ledger: None,
+        }
     }
 
     // Refuses a line before process and serial.
@@ -147,7 +152,12 @@ impl Draft {
     }
 
     // Keeps what a line says.
-    fn store(&mut self, heap: Global, line: usize, statement: Statement<'_>) -> Result<(), AllocError>
+    fn store(
+        &mut self,
+        heap: Global,
+        line: usize,
+        statement: Statement<'_>,
+    ) -> Result<(), AllocError>
         ensures { λ r. ⌜ ByOk r (λ _. sofar (now (self .exit)) ≡ stored line (meant (statement .entry)) (sofar (now (self .entry)))) (λ _. now (self .exit) ≡ now (self .entry)) ⌝ }
     {
         match statement {
@@ -170,7 +180,12 @@ impl Draft {
     }
 
     // Reads one line more.
-    fn take(&mut self, heap: Global, number: usize, line: &[u8]) -> Result<Result<(), Unreadable>, AllocError>
+    fn take(
+        &mut self,
+        heap: Global,
+        number: usize,
+        line: &[u8],
+    ) -> Result<Result<(), Unreadable>, AllocError>
         ensures { λ r. ⌜ made r (λ a. ByOk a (λ _. after-line number (now (line .entry)) (sofar (now (self .entry))) ≡ Ok (sofar (now (self .exit)))) (λ u. after-line number (now (line .entry)) (sofar (now (self .entry))) ≡ Err u)) ⌝ }
     {
         match self.read(line) {
@@ -178,7 +193,10 @@ impl Draft {
                 self.store(heap, number, statement)?;
                 Ok(Ok(()))
             }
-            Err(wrong) => Ok(Err(Unreadable { line: number, wrong })),
+            Err(wrong) => Ok(Err(Unreadable {
+                line: number,
+                wrong,
+            })),
         }
     }
 
@@ -186,16 +204,33 @@ impl Draft {
     fn complete(self, line: usize) -> Result<Journal, Unreadable>
         ensures { λ r. ⌜ told r ≡ at-line line (completed (sofar self)) ⌝ }
     {
-        let Draft { process, serial, scores, ledger } = self;
+        let Draft {
+            process,
+            serial,
+            scores,
+            ledger,
+        } = self;
         let Some((process_line, process)) = process else {
-            return Err(Unreadable { line, wrong: Wrong::MissingProcess });
+            return Err(Unreadable {
+                line,
+                wrong: Wrong::MissingProcess,
+            });
         };
         let Some(serial) = serial else {
-            return Err(Unreadable { line, wrong: Wrong::MissingSerial });
+            return Err(Unreadable {
+                line,
+                wrong: Wrong::MissingSerial,
+            });
         };
         let scores = scores.unwrap_or(256);
         let ledger = ledger.unwrap_or(768);
-        Ok(Journal { process, process_line, serial, scores, ledger })
+        Ok(Journal {
+            process,
+            process_line,
+            serial,
+            scores,
+            ledger,
+        })
     }
 }
 

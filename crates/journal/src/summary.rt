@@ -75,10 +75,18 @@ impl Standing {
     }
 }
 
-fn calls_line(heap: Global, calls: usize, accepted: usize, declined: usize) -> Result<String, AllocError>
+fn calls_line(
+    heap: Global,
+    calls: usize,
+    accepted: usize,
+    declined: usize,
+) -> Result<String, AllocError>
     ensures { λ r. ⌜ made r (λ t. string-bytes t ≡ calls-text calls accepted declined) ⌝ }
 {
-    format!(heap, "summary\ncalls {calls} accepted {accepted} declined {declined}\n")
+    format!(
+        heap,
+        "summary\ncalls {calls} accepted {accepted} declined {declined}\n"
+    )
 }
 
 fn state_line(heap: Global, phase: Phase, rollbacks: u16) -> Result<String, AllocError>
@@ -104,7 +112,10 @@ fn rows_out_of_play(heap: Global, rows: &RowCounts) -> Result<String, AllocError
     let due = rows.due;
     let undone = rows.undone;
     let passed_over = rows.passed_over;
-    format!(heap, " dropped {dropped} due {due} undone {undone} passed over {passed_over}\n")
+    format!(
+        heap,
+        " dropped {dropped} due {due} undone {undone} passed over {passed_over}\n"
+    )
 }
 
 fn step_line(heap: Global, n: usize, step: &StepLine) -> Result<String, AllocError>
@@ -130,7 +141,11 @@ fn printable_char(b: u8) -> char
     ensures ascii { λ r. ⌜ r < 128 ⌝ }
     ensures value { λ r. ⌜ r ≡ shown-byte b ⌝ }
 {
-    if 33 <= b && b <= 126 { char::from(b) } else { '?' }
+    if 33 <= b && b <= 126 {
+        char::from(b)
+    } else {
+        '?'
+    }
 }
 
 /// A name as it is printed: a question mark for each byte outside 33 to 126.

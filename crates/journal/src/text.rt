@@ -84,7 +84,11 @@ pub(crate) fn split_word(line: &[u8]) -> Option<(&[u8], &[u8])>
 {
     let (_, line) = line.split_at(leading(line, Class::Blank));
     let (word, rest) = line.split_at(leading(line, Class::Solid));
-    if word.is_empty() { None } else { Some((word, rest)) }
+    if word.is_empty() {
+        None
+    } else {
+        Some((word, rest))
+    }
 }
 
 // The one word of a line's rest.
@@ -115,7 +119,11 @@ pub(crate) fn number(word: &[u8], limit: u32) -> Result<u32, Wrong>
             n = 10 * n + u64::from(*b - b'0');
         }
     }
-    if n <= limit { Ok(n as u32) } else { Err(Wrong::NumberTooLarge) }
+    if n <= limit {
+        Ok(n as u32)
+    } else {
+        Err(Wrong::NumberTooLarge)
+    }
 }
 
 // The number that a word says, at most 65535.
@@ -140,7 +148,11 @@ pub(crate) fn trimmed(line: &[u8]) -> &[u8]
     ensures { λ r. ⌜ now r ≡ trimmed (now (line .entry)) ⌝ }
 {
     let n = line.len();
-    if n > 0 && line[n - 1] == b'\r' { &line[0..n - 1] } else { line }
+    if n > 0 && line[n - 1] == b'\r' {
+        &line[0..n - 1]
+    } else {
+        line
+    }
 }
 
 // Whether a word is the name.

@@ -4,6 +4,7 @@
 mod tests {
     use journal::UnreadableDisplay;
     use journal::parse;
+    use journal::run;
     use std::alloc::Global;
     use std::test::*;
 
@@ -19,7 +20,13 @@ mod tests {
     }
 
     // The text is read, and says this.
-    fn is_read(heap: Global, text: &[u8], process: &[u8], line: usize, numbers: [u16; 3]) -> Result<(), Fail> {
+    fn is_read(
+        heap: Global,
+        text: &[u8],
+        process: &[u8],
+        line: usize,
+        numbers: [u16; 3],
+    ) -> Result<(), Fail> {
         match parse(heap, text)? {
             Ok(journal) => {
                 check(journal.process.as_slice() == process).note("process")?;
@@ -35,13 +42,55 @@ mod tests {
     #[test]
     fn readable(rt: LibcRuntime) -> Result<(), Fail> {
         let heap = rt.alloc();
-        is_read(heap, b"process 00ff\nserial 7\n", b"\x00\xff", 1, [7, 256, 768])?;
-        is_read(heap, b"process 00\r\nserial 7\r\n", b"\x00", 1, [7, 256, 768])?;
-        is_read(heap, b"process 00\nserial 65535", b"\x00", 1, [65535, 256, 768])?;
-        is_read(heap, b"process 00\nserial 7\nscores 0\nledger 1", b"\x00", 1, [7, 0, 1])?;
-        is_read(heap, b"process 00\nserial 7\nledger 65535\n\nscores 9\n", b"\x00", 1, [7, 9, 65535])?;
-        is_read(heap, b"#x\n \t \nprocess aBcDeF\nserial 0\n", b"\xab\xcd\xef", 3, [0, 256, 768])?;
-        is_read(heap, b"\t process\t \t0a  \n  # \xff\x01\r\n serial\t000000000000000000000007 \n", b"\n", 1, [7, 256, 768])
+        is_read(
+            heap,
+            b"process 00ff\nserial 7\n",
+            b"\x00\xff",
+            1,
+            [7, 256, 768],
+        )?;
+        is_read(
+            heap,
+            b"process 00\r\nserial 7\r\n",
+            b"\x00",
+            1,
+            [7, 256, 768],
+        )?;
+        is_read(
+            heap,
+            b"process 00\nserial 65535",
+            b"\x00",
+            1,
+            [65535, 256, 768],
+        )?;
+        is_read(
+            heap,
+            b"process 00\nserial 7\nscores 0\nledger 1",
+            b"\x00",
+            1,
+            [7, 0, 1],
+        )?;
+        is_read(
+            heap,
+            b"process 00\nserial 7\nledger 65535\n\nscores 9\n",
+            b"\x00",
+            1,
+            [7, 9, 65535],
+        )?;
+        is_read(
+            heap,
+            b"#x\n \t \nprocess aBcDeF\nserial 0\n",
+            b"\xab\xcd\xef",
+            3,
+            [0, 256, 768],
+        )?;
+        is_read(
+            heap,
+            b"\t process\t \t0a  \n  # \xff\x01\r\n serial\t000000000000000000000007 \n",
+            b"\n",
+            1,
+            [7, 256, 768],
+        )
     }
 
     #[test]
@@ -50,49 +99,219 @@ mod tests {
         refused(heap, b"", "line 1: the process must come first")?;
         refused(heap, b"\n\n", "line 3: the process must come first")?;
         refused(heap, b"# only", "line 2: the process must come first")?;
-        refused(heap, b"\nserial 7\nprocess 00\n", "line 2: the process must come first")?;
+        refused(
+            heap,
+            b"\nserial 7\nprocess 00\n",
+            "line 2: the process must come first",
+        )?;
         refused(heap, b"ledger 7\n", "line 1: the process must come first")?;
-        refused(heap, b"process 00", "line 2: the serial must come straight after the process")?;
-        refused(heap, b"process 00\n\n", "line 3: the serial must come straight after the process")?;
-        refused(heap, b"process 00\nscores 5\nserial 7\n", "line 2: the serial must come straight after the process")?;
-        refused(heap, b"process 00\nprocess 00\nserial 7\n", "line 2: this setting was given before")?;
-        refused(heap, b"process 00\nserial 7\nprocess 00\n", "line 3: this setting was given before")?;
-        refused(heap, b"process 00\nserial 7\nserial 7\n", "line 3: this setting was given before")?;
-        refused(heap, b"process 00\nserial 7\nscores 1\nledger 2\nscores 1\n", "line 5: this setting was given before")?;
-        refused(heap, b"process 00\nserial 7\nledger 1\nledger 1\n", "line 4: this setting was given before")
+        refused(
+            heap,
+            b"process 00",
+            "line 2: the serial must come straight after the process",
+        )?;
+        refused(
+            heap,
+            b"process 00\n\n",
+            "line 3: the serial must come straight after the process",
+        )?;
+        refused(
+            heap,
+            b"process 00\nscores 5\nserial 7\n",
+            "line 2: the serial must come straight after the process",
+        )?;
+        refused(
+            heap,
+            b"process 00\nprocess 00\nserial 7\n",
+            "line 2: this setting was given before",
+        )?;
+        refused(
+            heap,
+            b"process 00\nserial 7\nprocess 00\n",
+            "line 3: this setting was given before",
+        )?;
+        refused(
+            heap,
+            b"process 00\nserial 7\nserial 7\n",
+            "line 3: this setting was given before",
+        )?;
+        refused(
+            heap,
+            b"process 00\nserial 7\nscores 1\nledger 2\nscores 1\n",
+            "line 5: this setting was given before",
+        )?;
+        refused(
+            heap,
+            b"process 00\nserial 7\nledger 1\nledger 1\n",
+            "line 4: this setting was given before",
+        )
     }
 
     #[test]
     fn numbers_and_digits(rt: LibcRuntime) -> Result<(), Fail> {
         let heap = rt.alloc();
-        refused(heap, b"process 00\nserial 65536\n", "line 2: a number is too large")?;
-        refused(heap, b"process 00\nserial 18446744073709551617\n", "line 2: a number is too large")?;
-        refused(heap, b"process 00\nserial 7\nscores 65536\n", "line 3: a number is too large")?;
-        refused(heap, b"process 00\nserial 7x\n", "line 2: a number has a character that is no decimal digit")?;
-        refused(heap, b"process 00\nserial 99999x\n", "line 2: a number has a character that is no decimal digit")?;
-        refused(heap, b"process 00\nserial -1\n", "line 2: a number has a character that is no decimal digit")?;
+        refused(
+            heap,
+            b"process 00\nserial 65536\n",
+            "line 2: a number is too large",
+        )?;
+        refused(
+            heap,
+            b"process 00\nserial 18446744073709551617\n",
+            "line 2: a number is too large",
+        )?;
+        refused(
+            heap,
+            b"process 00\nserial 7\nscores 65536\n",
+            "line 3: a number is too large",
+        )?;
+        refused(
+            heap,
+            b"process 00\nserial 7x\n",
+            "line 2: a number has a character that is no decimal digit",
+        )?;
+        refused(
+            heap,
+            b"process 00\nserial 99999x\n",
+            "line 2: a number has a character that is no decimal digit",
+        )?;
+        refused(
+            heap,
+            b"process 00\nserial -1\n",
+            "line 2: a number has a character that is no decimal digit",
+        )?;
         refused(heap, b"process 00\nserial\n", "line 2: a word is missing")?;
-        refused(heap, b"process 00\nserial 7 8\n", "line 2: there is a word too many")?;
+        refused(
+            heap,
+            b"process 00\nserial 7 8\n",
+            "line 2: there is a word too many",
+        )?;
         refused(heap, b"process \n", "line 1: a word is missing")?;
         refused(heap, b"process 00 00\n", "line 1: there is a word too many")?;
-        refused(heap, b"process 000\n", "line 1: the process has an odd number of hex digits")?;
-        refused(heap, b"process 0g\n", "line 1: the process has a character that is no hex digit")?;
-        refused(heap, b"process g00\n", "line 1: the process has a character that is no hex digit")
+        refused(
+            heap,
+            b"process 000\n",
+            "line 1: the process has an odd number of hex digits",
+        )?;
+        refused(
+            heap,
+            b"process 0g\n",
+            "line 1: the process has a character that is no hex digit",
+        )?;
+        refused(
+            heap,
+            b"process g00\n",
+            "line 1: the process has a character that is no hex digit",
+        )
     }
 
     #[test]
     fn words_and_bytes(rt: LibcRuntime) -> Result<(), Fail> {
         let heap = rt.alloc();
-        refused(heap, b"process 00\nserial 7\nstart 1 - score 5\n", "line 3: the first word is unknown")?;
+        refused(
+            heap,
+            b"process 00\nserial 7\nstart 1 - score 5\n",
+            "line 3: the first word is unknown",
+        )?;
         refused(heap, b"Process 00\n", "line 1: the first word is unknown")?;
         refused(heap, b"processes 00\n", "line 1: the first word is unknown")?;
-        refused(heap, b"process 00\nserial 7\n7 #\n", "line 3: the first word is unknown")?;
-        refused(heap, b"process 00\nserial 7\x01\n", "line 2: a byte is neither printable ASCII nor a space nor a tab")?;
-        refused(heap, b"process 00\nseri\xc3\xa4l 7\n", "line 2: a byte is neither printable ASCII nor a space nor a tab")?;
-        refused(heap, b"process 00\x7f\n", "line 1: a byte is neither printable ASCII nor a space nor a tab")?;
-        refused(heap, b"\x0c#\n", "line 1: a byte is neither printable ASCII nor a space nor a tab")?;
-        refused(heap, b"process 00\r\r\n", "line 1: a byte is neither printable ASCII nor a space nor a tab")?;
-        refused(heap, b"process 00\r", "line 1: a byte is neither printable ASCII nor a space nor a tab")?;
-        refused(heap, b"process zz 00\x00\n", "line 1: a byte is neither printable ASCII nor a space nor a tab")
+        refused(
+            heap,
+            b"process 00\nserial 7\n7 #\n",
+            "line 3: the first word is unknown",
+        )?;
+        refused(
+            heap,
+            b"process 00\nserial 7\x01\n",
+            "line 2: a byte is neither printable ASCII nor a space nor a tab",
+        )?;
+        refused(
+            heap,
+            b"process 00\nseri\xc3\xa4l 7\n",
+            "line 2: a byte is neither printable ASCII nor a space nor a tab",
+        )?;
+        refused(
+            heap,
+            b"process 00\x7f\n",
+            "line 1: a byte is neither printable ASCII nor a space nor a tab",
+        )?;
+        refused(
+            heap,
+            b"\x0c#\n",
+            "line 1: a byte is neither printable ASCII nor a space nor a tab",
+        )?;
+        refused(
+            heap,
+            b"process 00\r\r\n",
+            "line 1: a byte is neither printable ASCII nor a space nor a tab",
+        )?;
+        refused(
+            heap,
+            b"process 00\r",
+            "line 1: a byte is neither printable ASCII nor a space nor a tab",
+        )?;
+        refused(
+            heap,
+            b"process zz 00\x00\n",
+            "line 1: a byte is neither printable ASCII nor a space nor a tab",
+        )
+    }
+
+    // What comes of a whole journal.
+    fn comes_of(
+        heap: Global,
+        text: &[u8],
+        printed: &str,
+        reported: &str,
+        accepted: bool,
+    ) -> Result<(), Fail> {
+        let outcome = run(heap, text)?;
+        check(outcome.printed.as_str() == printed).note("printed")?;
+        check(outcome.reported.as_str() == reported).note("reported")?;
+        check(outcome.accepted == accepted).note("accepted")
+    }
+
+    #[test]
+    fn outcomes(rt: LibcRuntime) -> Result<(), Fail> {
+        let heap = rt.alloc();
+        // One step and no arrows; the name is A, a space and a byte above 126.
+        comes_of(
+            heap,
+            b"\nprocess 0102000000304120C3\nserial 7\n",
+            "2 process: steps 1 arrows 0\nsummary\ncalls 0 accepted 0 declined 0\nphase forward rollbacks 0\nrows 0 running 0 committed 0 dropped 0 due 0 undone 0 passed over 0\nstep 1 A?? none\n",
+            "",
+            true,
+        )?;
+        // The same step, private.
+        comes_of(
+            heap,
+            b"process 0102000020304120c3\nserial 7",
+            "1 process: steps 1 arrows 0\nsummary\ncalls 0 accepted 0 declined 0\nphase forward rollbacks 0\nrows 0 running 0 committed 0 dropped 0 due 0 undone 0 passed over 0\nstep 1 A?? private\n",
+            "",
+            true,
+        )?;
+        // Two bytes are no header, and another form number is no process.
+        comes_of(
+            heap,
+            b"process 010a\nserial 7\n",
+            "1 process: declined 1 1 0 - the stored process ends too early or has bytes left over\n",
+            "",
+            false,
+        )?;
+        comes_of(
+            heap,
+            b"process 0202000000304120c3\nserial 7\n",
+            "1 process: declined 2 1 0 - the form number is not 1 or a spare bit is set\n",
+            "",
+            false,
+        )?;
+        // A line that cannot be read is told first, whatever the process is.
+        comes_of(
+            heap,
+            b"process 010a\nserial x\n",
+            "",
+            "line 2: a number has a character that is no decimal digit\n",
+            false,
+        )
     }
 }

@@ -1,4 +1,4 @@
-// A ledger's lines, a search among them, and their sum.
+// A ledger's lines, how one of them is found, and their sum.
 ghost use mathlib.Core.Path.{_≡_};
 ghost use mathlib.Core.Bool.{cond};
 ghost use Prim.Native.Nat.{_≤_, _^_};

@@ -1,4 +1,4 @@
-// A score book's records, and a search among them.
+// A score book's records, and how one of them is found.
 ghost use mathlib.Core.Path.{_≡_};
 ghost use Rattle.scorebook.specs.Records.{find-in, place-in};
 use host::RowKey;

@@ -17,7 +17,8 @@ loop-i-again c =
     let P : Option ℕ → Type 0 = λ b. Least (Seen xs (c .args .from) (c .args .points) (c .args .after) (i + 1)) (c .args .after) b in
     elim (c .if-x-from .came) [
       | then-x-from·then-closer w ↦ subst P (sym (w .best-is))
-          (least-take xs (c .args .from) (c .args .points) (c .args .after) i best (w .if-x-from .taken) (w .if-closer .ensures tt) (c .loop-i .inv))
+          (least-take xs (c .args .from) (c .args .points) (c .args .after) i best
+          (w .if-x-from .taken) (w .if-closer .ensures tt) (c .loop-i .inv))
       | else-x-from w ↦ subst P (sym (w .best-is))
           (least-skip xs (c .args .from) (c .args .points) (c .args .after) i best
           (elim (w .else-x-from .came) [

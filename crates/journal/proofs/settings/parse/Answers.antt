@@ -22,23 +22,21 @@ same-left text i p q r = λ j. Left (sofar (p j)) (q j) text (r j) i
 
 pub loop-i-again : need.loop-i-again
 loop-i-again c = elim (c .if-b-eq10 .came) [
-  then-b-eq10·in-Continue-unreadable·in-rest w ↦
-    let read = cases-at-ok _ _ (w .in-rest .field-0) (w .in-rest .is) (w .in-Continue-unreadable .ensures tt) in
-    let next = line-next (sofar (c .loop-i .draft)) (c .loop-i .line) (c .args .text .now) (c .loop-i .from) (c .loop-i .i)
-        (c .loop-i-test .taken) (w .if-b-eq10 .taken) (w .trimmed .ensures) read (c .loop-i .inv .2) in
-    (
-      omega (arith, w .from-is),
-      omega (arith, w .line-is, c .loop-i .inv .1),
-      same-left (c .args .text .now) (c .loop-i .i + 1) (w .draft-is) (w .line-is) (w .from-is) ∙ next,
-    )
+  | then-b-eq10·in-Continue-unreadable·in-rest w ↦
+      let read = cases-at-ok _ _ (w .in-rest .field-0) (w .in-rest .is) (w .in-Continue-unreadable .ensures tt) in
+      let next = line-next (sofar (c .loop-i .draft)) (c .loop-i .line) (c .args .text .now) (c .loop-i .from) (c .loop-i .i)
+      (c .loop-i-test .taken) (w .if-b-eq10 .taken) (w .trimmed .ensures) read (c .loop-i .inv .2) in (
+        omega (arith, w .from-is),
+        omega (arith, w .line-is, c .loop-i .inv .1),
+        same-left (c .args .text .now) (c .loop-i .i + 1) (w .draft-is) (w .line-is) (w .from-is) ∙ next,
+      )
   | else-b-eq10 w ↦
-    let next = left-byte (sofar (c .loop-i .draft)) (c .loop-i .line) (c .args .text .now) (c .loop-i .from) (c .loop-i .i)
-        (c .loop-i .inv .0) (c .loop-i-test .taken) (w .if-b-eq10 .left) in
-    (
-      omega (arith, w .from-is, c .loop-i .inv .0),
-      omega (arith, w .line-is, c .loop-i .inv .1),
-      same-left (c .args .text .now) (c .loop-i .i + 1) (w .draft-is) (w .line-is) (w .from-is) ∙ sym next ∙ c .loop-i .inv .2,
-    )
+      let next = left-byte (sofar (c .loop-i .draft)) (c .loop-i .line) (c .args .text .now) (c .loop-i .from) (c .loop-i .i)
+      (c .loop-i .inv .0) (c .loop-i-test .taken) (w .if-b-eq10 .left) in (
+        omega (arith, w .from-is, c .loop-i .inv .0),
+        omega (arith, w .line-is, c .loop-i .inv .1),
+        same-left (c .args .text .now) (c .loop-i .i + 1) (w .draft-is) (w .line-is) (w .from-is) ∙ sym next ∙ c .loop-i .inv .2,
+      )
 ]
 
 pub returns-in-Err-2 : need.returns-in-Err-2
@@ -52,13 +50,13 @@ same-end p q = λ j. at-line (q j) (completed (sofar (p j)))
 
 pub returns : need.returns
 returns c = elim (c .if-from-text .came) [
-  then-from-text·in-Continue-unreadable-2·in-rest-2 w ↦
-    let read = cases-at-ok _ _ (w .in-rest-2 .field-0) (w .in-rest-2 .is) (w .in-Continue-unreadable-2 .ensures tt) in
-    let last = line-last (sofar (c .loop-i .draft)) (c .loop-i .line) (c .args .text .now) (c .loop-i .from) (c .loop-i .i)
-        (c .loop-i-test .left) (c .loop-i .kept .i-end) (w .if-from-text .taken) refl read (c .loop-i .inv .2) in
-    c .complete .ensures ∙ same-end (w .draft-is) (w .line-is) ∙ last
+  | then-from-text·in-Continue-unreadable-2·in-rest-2 w ↦
+      let read = cases-at-ok _ _ (w .in-rest-2 .field-0) (w .in-rest-2 .is) (w .in-Continue-unreadable-2 .ensures tt) in
+      let last = line-last (sofar (c .loop-i .draft)) (c .loop-i .line) (c .args .text .now) (c .loop-i .from) (c .loop-i .i)
+      (c .loop-i-test .left) (c .loop-i .kept .i-end) (w .if-from-text .taken) refl read (c .loop-i .inv .2) in
+      c .complete .ensures ∙ same-end (w .draft-is) (w .line-is) ∙ last
   | else-from-text w ↦
-    let none = left-none (sofar (c .loop-i .draft)) (c .loop-i .line) (c .args .text .now) (c .loop-i .from) (c .loop-i .i)
-        (c .loop-i-test .left) (w .if-from-text .left) in
-    c .complete .ensures ∙ same-end (w .draft-is) (w .line-is) ∙ sym none ∙ c .loop-i .inv .2
+      let none = left-none (sofar (c .loop-i .draft)) (c .loop-i .line) (c .args .text .now) (c .loop-i .from) (c .loop-i .i)
+      (c .loop-i-test .left) (w .if-from-text .left) in
+      c .complete .ensures ∙ same-end (w .draft-is) (w .line-is) ∙ sym none ∙ c .loop-i .inv .2
 ]

@@ -28,12 +28,12 @@ loop-b-again c =
     let v = value (take (c .loop-b .b-index) ds) in
     let small : limit < 2 ^ 32 = omega (arith, c .fits .limit .fits) in
     let stands : Stands limit (c .if-n-limit .n) (10 * v + (b - 48)) = elim (c .if-n-limit .came) [
-      then-n-limit w ↦
-        let n-is : 10 * c .loop-b .n + (b - 48) ≡ c .if-n-limit .n = omega (arith, w .n-is, w .from .ensures) in
-        let fits : b - 48 < 2 ^ 8 = omega (arith, c .typed .word (c .loop-b .b-index)) in
-        subst (λ n. Stands limit n (10 * v + (b - 48))) n-is (stands-more limit (c .loop-b .n) v small (c .loop-b .inv) (b - 48) fits (w .if-n-limit .taken))
+      | then-n-limit w ↦
+          let n-is : 10 * c .loop-b .n + (b - 48) ≡ c .if-n-limit .n = omega (arith, w .n-is, w .from .ensures) in
+          let fits : b - 48 < 2 ^ 8 = omega (arith, c .typed .word (c .loop-b .b-index)) in
+          subst (λ n. Stands limit n (10 * v + (b - 48))) n-is (stands-more limit (c .loop-b .n) v small (c .loop-b .inv) (b - 48) fits (w .if-n-limit .taken))
       | else-n-limit w ↦
-        subst (λ n. Stands limit n (10 * v + (b - 48))) (sym (w .n-is)) (stands-past limit (c .loop-b .n) v small (c .loop-b .inv) (b - 48) (w .if-n-limit .left))
+          subst (λ n. Stands limit n (10 * v + (b - 48))) (sym (w .n-is)) (stands-past limit (c .loop-b .n) v small (c .loop-b .inv) (b - 48) (w .if-n-limit .left))
     ] in
     subst (Stands limit (c .if-n-limit .n)) (sym (value-more ds (c .loop-b .b-index) (c .loop-b-test .taken))) stands
 

@@ -15,5 +15,5 @@ add-result c =
       c .unwrap-or .ensures ∙ ap (λ o. valueOr o 0) (c .nibble .ensures),
       c .unwrap-or-2 .ensures ∙ ap (λ o. valueOr o 0) (c .nibble-2 .ensures),
       nibble-small (c .args .high),
-      nibble-small (c .args .low)
+      nibble-small (c .args .low),
     )

@@ -10,9 +10,9 @@ use Rattle.journal.proofs.text.trimmed.Needs.{else-n-gt0·by·then-n-gt0·else
 
 pub returns-else-n-gt0 : need.returns-else-n-gt0
 returns-else-n-gt0 c = elim (c .else-n-gt0 .came) [
-  else-n-gt0·by·then-n-gt0·else-line-n-eq13 w ↦ grind (arith, tells)
+  | else-n-gt0·by·then-n-gt0·else-line-n-eq13 w ↦ grind (arith, tells)
   | else-n-gt0·by·else-n-gt0 w ↦
-    let past : length (c .args .line .now) ≤ length (c .args .line .now) - 1 = omega arith in
-    let e = getD-past (c .args .line .now) (length (c .args .line .now) - 1) 0 past in
-    grind (arith, tells)
+      let past : length (c .args .line .now) ≤ length (c .args .line .now) - 1 = omega arith in
+      let e = getD-past (c .args .line .now) (length (c .args .line .now) - 1) 0 past in
+      grind (arith, tells)
 ]

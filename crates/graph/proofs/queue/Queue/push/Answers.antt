@@ -17,7 +17,8 @@ returns g c =
     let free : q .count < length (q .slots .now) = omega arith in
     record {
       test = search needs;
-      waiting = ring-push (q .slots .now) (q .head) (q .count) (c .spot-place .result) (c .args .x) (sound q) free (c .spot-place .ensures);
+      waiting = ring-push (q .slots .now) (q .head) (q .count) (c .spot-place .result) (c .args .x) (sound q) free
+          (c .spot-place .ensures);
       refused = search needs;
       places = search needs;
     }
