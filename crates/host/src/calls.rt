@@ -6,12 +6,10 @@ ghost use Rattle.host.specs.Later.{Later};
 use crate::hosts::Host;
 use crate::keys::RowKey;
 use values::Entry;
-use values::EntryDebug;
-use values::EntryPartialEq;
 use values::Fault;
 
 /// One call on a host.
-#[derive(Clone, Copy, PartialEq, Eq, Debug, Drop)]
+#[derive(Clone, Copy, Drop)]
 pub enum Call {
     Begin(RowKey, Entry),
     Commit(RowKey),

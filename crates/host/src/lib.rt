@@ -7,9 +7,6 @@ mod pair;
 mod switch;
 
 pub use calls::Call;
-pub use calls::CallDebug;
-pub use calls::CallEq;
-pub use calls::CallPartialEq;
 pub use calls::make_all;
 pub use declines::declined;
 pub use hosts::Controls;

@@ -7,17 +7,9 @@ use lib.ListN.{length, getD, take, drop}
 use Rattle.std.proofs.shelf.Lists.{take-more, take-all, drop-all, getD-drop, length-drop, length-take-le, at-drop-more}
 use Rattle.std.proofs.shelf.Tests.{eq-eqb, ne-eqb}
 use Rattle.std.specs.declared.result.Result.{Result}
-use Rattle.std.specs.declared.result.Result.the-variants.{Ok, Err}
-use Rattle.journal.specs.declared.Wrong.{Wrong}
 use Rattle.journal.specs.declared.Unreadable.{Unreadable}
 use Rattle.journal.specs.Text.{trimmed, unless-empty, lines-after}
-use Rattle.journal.specs.Settings.{andThen, at-line, after-line, completed, read-on, journal, Settings, Contents, Said}
-
--- what refuses a line refuses it in whatever follows
-pub refused-line : (r : Result Said Wrong) (f : Said → Result (Unit {0}) Wrong) (g : Said → Settings) (e : Wrong)
-    → andThen r f ≡ Err e → andThen r (λ x. andThen (f x) (λ _. Ok (g x))) ≡ Err e
-refused-line (Ok x) f g e h = rw h refl
-refused-line (Err w) f g e h = let same : w ≡ e = cc in ap (λ (v : Wrong). Err v) same
+use Rattle.journal.specs.Settings.{andThen, at-line, after-line, completed, read-on, journal, Settings, Contents}
 
 -- the next byte ends the line, or belongs to it
 feed : (line : List ℕ) (b : ℕ) (bs : List ℕ) → b ≡ 10 → lines-after line (b ∷ bs) ≡ trimmed line ∷ lines-after [] bs
@@ -47,15 +39,17 @@ module _ (s : Settings) (n : ℕ) (text : List ℕ) (from i : ℕ) where
   pub left-byte : from ≤ i → i < length text → (getD text i 0 ≡ 10 → ⊥) → Left s n text from i ≡ Left s n text from (i + 1)
   left-byte l in′ no-feed =
       at-drop-more (λ r. read-on s n (lines-after (take (i - from) (drop from text)) r)) text i 0 in′
-      ∙ ap (read-on s n) (other (take (i - from) (drop from text)) (getD text i 0) (drop (i + 1) text) no-feed ∙ ap (λ l. lines-after l (drop (i + 1) text)) (more l in′))
+      ∙ ap (read-on s n) (other (take (i - from) (drop from text)) (getD text i 0) (drop (i + 1) text) no-feed)
+      ∙ ap (λ l. read-on s n (lines-after l (drop (i + 1) text))) (more l in′)
 
   -- a line feed ends the line
   pub left-line : i < length text → getD text i 0 ≡ 10
       → Left s n text from i ≡ andThen (after-line n (trimmed (take (i - from) (drop from text))) s) (λ t. Left t (n + 1) text (i + 1) (i + 1))
   left-line in′ is-feed =
       let start : 0 ≡ i + 1 - (i + 1) = omega arith in
-      let on : ℕ → Result Contents Unreadable
-      = λ k. andThen (after-line n (trimmed (take (i - from) (drop from text))) s) (λ t. read-on t (n + 1) (lines-after (take k (drop (i + 1) text)) (drop (i + 1) text))) in
+      let rest = drop (i + 1) text in
+      let this = after-line n (trimmed (take (i - from) (drop from text))) s in
+      let on : ℕ → Result Contents Unreadable = λ k. andThen this (λ t. read-on t (n + 1) (lines-after (take k rest) rest)) in
       at-drop-more (λ r. read-on s n (lines-after (take (i - from) (drop from text)) r)) text i 0 in′
       ∙ ap (read-on s n) (feed (take (i - from) (drop from text)) (getD text i 0) (drop (i + 1) text) is-feed) ∙ ap on start
 

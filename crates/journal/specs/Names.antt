@@ -1,8 +1,11 @@
 -- The steps that a stored process hands out, as the summary of a blank sheet tells them. Assumes nothing.
 use mathlib.Core.Bool.{Bool, true, false, cond}
-use mathlib.Core.List.{List, [], _∷_}
+use mathlib.Core.List.{List, [], _∷_, map}
 use Prim.Native.Nat.{ℕ, zero, suc}
 use Rattle.std.specs.Of.String.{string-bytes}
+use Rattle.std.specs.Of.Vec.{vec-items}
+use Rattle.std.specs.declared.alloc.Global.{Global}
+use Rattle.std.specs.declared.vec.Vec.{Vec}
 use Rattle.std.specs.declared.option.Option.{Option}
 use Rattle.std.specs.declared.option.Option.the-variants.{Some, None}
 use Rattle.std.specs.declared.result.Result.{Result}
@@ -19,6 +22,9 @@ use Rattle.journal.specs.Spelled.{shown-name}
 -- a name as it is printed, and how the step stands
 abbrev pub line-shown : StepLine → List ℕ × Standing
 line-shown s = (string-bytes (s .name), s .standing)
+
+abbrev pub told-lines : Vec StepLine Global → List (List ℕ × Standing)
+told-lines v = map line-shown (vec-items v)
 
 -- the line of a step that has no row
 abbrev pub blank-line : Bool → List ℕ → List ℕ × Standing

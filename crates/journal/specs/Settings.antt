@@ -120,9 +120,13 @@ abbrev pub at-line : {A : Type 0} → ℕ → Result A Wrong → Result A Unread
 at-line n (Ok a) = Ok a
 at-line n (Err w) = Err (record { line = n; wrong = w })
 
+-- what a line says, where it may stand after these settings
+abbrev pub said-after : Settings → List ℕ → Result Said Wrong
+said-after s line = andThen (said line) (λ x. andThen (admitted x s) (λ _. Ok x))
+
 -- the settings after line n
 abbrev pub after-line : ℕ → List ℕ → Settings → Result Settings Unreadable
-after-line n line s = at-line n (andThen (said line) (λ x. andThen (admitted x s) (λ _. Ok (stored n x s))))
+after-line n line s = at-line n (andThen (said-after s line) (λ x. Ok (stored n x s)))
 
 -- what a journal says as a whole
 pub record Contents : Type 0 where

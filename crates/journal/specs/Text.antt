@@ -1,4 +1,5 @@
 -- The bytes of a journal: its lines, words, numbers and hex digits. Assumes nothing.
+use mathlib.Core.Path.{_≡_}
 use mathlib.Core.Bool.{Bool, true, false, not, cond, _&&_, _||_}
 use mathlib.Core.List.{List, [], _∷_, _++_}
 use Prim.Native.Nat.{ℕ, _+_, _-_, _*_, _%_}
@@ -6,6 +7,7 @@ use lib.Dec.{eqb, leb}
 use lib.ListN.{length, getD, take}
 use Rattle.std.specs.Iters.{folded}
 use Rattle.std.specs.Options.{isSome, valueOr}
+use Rattle.std.specs.Results.{Cases}
 use Rattle.std.specs.declared.option.Option.{Option}
 use Rattle.std.specs.declared.option.Option.the-variants.{Some, None}
 use Rattle.std.specs.declared.result.Result.{Result}
@@ -14,6 +16,10 @@ use Rattle.journal.specs.declared.text.Class.{Class}
 use Rattle.journal.specs.declared.text.Class.the-variants.{Blank, Solid, Allowed, Digit, Hex}
 use Rattle.journal.specs.declared.Wrong.{Wrong}
 use Rattle.journal.specs.declared.Wrong.the-variants.{TooFewWords, TooManyWords, NotANumber, NumberTooLarge, NotHex, OddHex}
+
+-- r is the answer a, seen through `view`
+abbrev pub Told : {A B E : Type 0} → Result A E → (A → B) → Result B E → Type 0
+Told r view a = Cases r (λ x. a ≡ Ok (view x)) (λ e. a ≡ Err e)
 
 -- each byte passes the test
 abbrev pub every : (ℕ → Bool) → List ℕ → Bool

@@ -1,11 +1,10 @@
 // The steps of a stored process, as the summary of a blank sheet tells them.
 ghost use mathlib.Core.Path.{_≡_};
-ghost use mathlib.Core.List.{[], _++_, map};
-ghost use Rattle.std.specs.Of.Vec.{vec-items};
+ghost use mathlib.Core.List.{[], _++_};
 ghost use Rattle.std.specs.Vec.{made};
 ghost use Rattle.process.specs.Items.{record-of};
 ghost use Rattle.process.specs.Reading.{start};
-ghost use Rattle.journal.specs.Names.{line-shown, blank-line, line-before, handed};
+ghost use Rattle.journal.specs.Names.{line-shown, told-lines, blank-line, line-before, handed};
 use crate::summary::Standing;
 use crate::summary::StepLine;
 use crate::summary::printable_name;
@@ -30,7 +29,7 @@ fn blank_line(heap: Global, private: bool, name: &[u8]) -> Result<StepLine, Allo
 
 // Adds the line of a step; other records have none.
 fn add_line(heap: Global, lines: &mut Vec<StepLine>, item: Item<'_>) -> Result<(), AllocError>
-    ensures { λ r. ⌜ made r (λ _. map line-shown (vec-items (now (lines .exit))) ≡ map line-shown (vec-items (now (lines .entry))) ++ line-before (record-of (item .entry)) []) ⌝ }
+    ensures { λ r. ⌜ made r (λ _. told-lines (now (lines .exit)) ≡ told-lines (now (lines .entry)) ++ line-before (record-of (item .entry)) []) ⌝ }
 {
     if let Item::Step { step, name, .. } = item {
         lines.push(blank_line(heap, step.private, name)?)?;
@@ -44,7 +43,7 @@ pub(crate) fn blank_lines(
     stored: &[u8],
     records: usize,
 ) -> Result<Vec<StepLine>, AllocError>
-    ensures { λ r. ⌜ made r (λ v. map line-shown (vec-items v) ≡ handed records (now (stored .entry)) start) ⌝ }
+    ensures { λ r. ⌜ made r (λ v. told-lines v ≡ handed records (now (stored .entry)) start) ⌝ }
 {
     let mut lines = Vec::new(heap);
     let mut reader = Reader::new(stored);

@@ -1,12 +1,10 @@
 // The settings of a journal: what each line says, and the order that the lines keep.
 ghost use mathlib.Core.Path.{_≡_};
-ghost use Rattle.std.specs.Results.{Cases as ByOk};
-ghost use Rattle.std.specs.Vec.{made};
-ghost use Rattle.std.specs.declared.result.Result.the-variants.{Ok, Err};
-ghost use Rattle.journal.specs.Text.{words};
+ghost use Rattle.std.specs.Vec.{made, refused};
+ghost use Rattle.journal.specs.Text.{Told, words};
 ghost use Rattle.journal.specs.Settings.{keyword as named, spoken, said, meant};
 ghost use Rattle.journal.specs.Settings.{sofar, no-settings, require, after-serial, admitted, stored};
-ghost use Rattle.journal.specs.Settings.{andThen, at-line, after-line, completed, told, journal};
+ghost use Rattle.journal.specs.Settings.{said-after, at-line, after-line, completed, told, journal};
 use crate::Journal;
 use crate::Unreadable;
 use crate::Wrong;
@@ -60,7 +58,7 @@ fn keyword_of(word: &[u8]) -> Option<Keyword>
 
 // A line with this keyword, by what follows it.
 fn setting(keyword: Keyword, rest: &[u8]) -> Result<Statement<'_>, Wrong>
-    ensures { λ r. ⌜ ByOk r (λ x. spoken keyword (words (now (rest .entry))) ≡ Ok (meant x)) (λ e. spoken keyword (words (now (rest .entry))) ≡ Err e) ⌝ }
+    ensures { λ r. ⌜ Told r meant (spoken keyword (words (now (rest .entry)))) ⌝ }
 {
     let word = only_word(rest)?;
     match keyword {
@@ -76,7 +74,7 @@ fn setting(keyword: Keyword, rest: &[u8]) -> Result<Statement<'_>, Wrong>
 
 // What a line says.
 fn read_line(line: &[u8]) -> Result<Statement<'_>, Wrong>
-    ensures { λ r. ⌜ ByOk r (λ x. said (now (line .entry)) ≡ Ok (meant x)) (λ e. said (now (line .entry)) ≡ Err e) ⌝ }
+    ensures { λ r. ⌜ Told r meant (said (now (line .entry))) ⌝ }
 {
     let Some((word, rest)) = split_word(line) else {
         return Ok(Statement::Nothing);
@@ -158,7 +156,8 @@ impl Draft {
         line: usize,
         statement: Statement<'_>,
     ) -> Result<(), AllocError>
-        ensures { λ r. ⌜ ByOk r (λ _. sofar (now (self .exit)) ≡ stored line (meant (statement .entry)) (sofar (now (self .entry)))) (λ _. now (self .exit) ≡ now (self .entry)) ⌝ }
+        ensures kept { λ r. ⌜ made r (λ _. sofar (now (self .exit)) ≡ stored line (meant (statement .entry)) (sofar (now (self .entry)))) ⌝ }
+        ensures same { λ r. ⌜ refused r (λ _. now (self .exit) ≡ now (self .entry)) ⌝ }
     {
         match statement {
             Statement::Nothing => {}
@@ -172,7 +171,7 @@ impl Draft {
 
     // What a line says, where it may stand here.
     fn read<'a>(&self, line: &'a [u8]) -> Result<Statement<'a>, Wrong>
-        ensures { λ r. ⌜ ByOk r (λ x. (said (now (line .entry)) ≡ Ok (meant x)) × (admitted (meant x) (sofar (now (self .entry))) ≡ Ok tt)) (λ e. andThen (said (now (line .entry))) (λ x. admitted x (sofar (now (self .entry)))) ≡ Err e) ⌝ }
+        ensures { λ r. ⌜ Told r meant (said-after (sofar (now (self .entry))) (now (line .entry))) ⌝ }
     {
         let statement = read_line(line)?;
         self.admit(statement)?;
@@ -186,7 +185,7 @@ impl Draft {
         number: usize,
         line: &[u8],
     ) -> Result<Result<(), Unreadable>, AllocError>
-        ensures { λ r. ⌜ made r (λ a. ByOk a (λ _. after-line number (now (line .entry)) (sofar (now (self .entry))) ≡ Ok (sofar (now (self .exit)))) (λ u. after-line number (now (line .entry)) (sofar (now (self .entry))) ≡ Err u)) ⌝ }
+        ensures { λ r. ⌜ made r (λ a. Told a (λ _. sofar (now (self .exit))) (after-line number (now (line .entry)) (sofar (now (self .entry))))) ⌝ }
     {
         match self.read(line) {
             Ok(statement) => {

@@ -5,12 +5,10 @@ ghost use lib.Dec.{eqb};
 ghost use lib.ListN.{getD};
 ghost use Rattle.std.specs.Of.Vec.{vec-items};
 ghost use Rattle.std.specs.Options.{Cases as BySome};
-ghost use Rattle.std.specs.Results.{Cases as ByOk};
 ghost use Rattle.std.specs.Vec.{made};
-ghost use Rattle.std.specs.declared.result.Result.the-variants.{Ok, Err};
 ghost use Rattle.std.specs.shelf.Lists.{leading as fronted};
 ghost use Rattle.std.specs.shelf.Text.{sameBytes};
-ghost use Rattle.journal.specs.Text.{pair, paired, bytes-of-hex};
+ghost use Rattle.journal.specs.Text.{Told, pair, paired, bytes-of-hex};
 ghost use Rattle.journal.specs.Text.{blank, nibble, in-class, every, words, only, number, trimmed};
 use crate::Wrong;
 use std::alloc::AllocError;
@@ -93,7 +91,7 @@ pub(crate) fn split_word(line: &[u8]) -> Option<(&[u8], &[u8])>
 
 // The one word of a line's rest.
 pub(crate) fn only_word(line: &[u8]) -> Result<&[u8], Wrong>
-    ensures { λ r. ⌜ ByOk r (λ w. only (words (now (line .entry))) ≡ Ok (now w)) (λ e. only (words (now (line .entry))) ≡ Err e) ⌝ }
+    ensures { λ r. ⌜ Told r (λ w. now w) (only (words (now (line .entry)))) ⌝ }
 {
     let Some((word, rest)) = split_word(line) else {
         return Err(Wrong::TooFewWords);
@@ -164,7 +162,7 @@ pub(crate) fn is(word: &[u8], name: &[u8]) -> bool
 
 // Refuses a word that is not hex digits, two for each byte.
 pub(crate) fn check_hex(word: &[u8]) -> Result<(), Wrong>
-    ensures { λ r. ⌜ ByOk r (λ _. bytes-of-hex (now (word .entry)) ≡ Ok (paired (now (word .entry)))) (λ e. bytes-of-hex (now (word .entry)) ≡ Err e) ⌝ }
+    ensures { λ r. ⌜ Told r (λ _. paired (now (word .entry))) (bytes-of-hex (now (word .entry))) ⌝ }
 {
     if !every(word, Class::Hex) {
         Err(Wrong::NotHex)

@@ -271,47 +271,47 @@ mod tests {
         check(outcome.accepted == accepted).note("accepted")
     }
 
+    // What is printed of a blank sheet with one step.
+    fn one_step(heap: Global, text: &[u8], line: usize, step: &str) -> Result<(), Fail> {
+        let calls = "calls 0 accepted 0 declined 0\nphase forward rollbacks 0\n";
+        let rows = "rows 0 running 0 committed 0 dropped 0 due 0 undone 0 passed over 0\n";
+        let printed = format!(
+            heap,
+            "{line} process: steps 1 arrows 0\nsummary\n{calls}{rows}step 1 {step}\n"
+        )?;
+        comes_of(heap, text, printed.as_str(), "", true)
+    }
+
     #[test]
     fn outcomes(rt: LibcRuntime) -> Result<(), Fail> {
         let heap = rt.alloc();
-        // One step and no arrows; the name is A, a space and a byte above 126.
-        comes_of(
+        // One step and no arrows; the name is A, a space and a byte above 126. Then the same step, private.
+        one_step(
             heap,
             b"\nprocess 0102000000304120C3\nserial 7\n",
-            "2 process: steps 1 arrows 0\nsummary\ncalls 0 accepted 0 declined 0\nphase forward rollbacks 0\nrows 0 running 0 committed 0 dropped 0 due 0 undone 0 passed over 0\nstep 1 A?? none\n",
-            "",
-            true,
+            2,
+            "A?? none",
         )?;
-        // The same step, private.
-        comes_of(
+        one_step(
             heap,
             b"process 0102000020304120c3\nserial 7",
-            "1 process: steps 1 arrows 0\nsummary\ncalls 0 accepted 0 declined 0\nphase forward rollbacks 0\nrows 0 running 0 committed 0 dropped 0 due 0 undone 0 passed over 0\nstep 1 A?? private\n",
-            "",
-            true,
+            1,
+            "A?? private",
         )?;
         // Two bytes are no header, and another form number is no process.
-        comes_of(
-            heap,
-            b"process 010a\nserial 7\n",
-            "1 process: declined 1 1 0 - the stored process ends too early or has bytes left over\n",
-            "",
-            false,
-        )?;
+        let short =
+            "1 process: declined 1 1 0 - the stored process ends too early or has bytes left over\n";
+        let form = "1 process: declined 2 1 0 - the form number is not 1 or a spare bit is set\n";
+        comes_of(heap, b"process 010a\nserial 7\n", short, "", false)?;
         comes_of(
             heap,
             b"process 0202000000304120c3\nserial 7\n",
-            "1 process: declined 2 1 0 - the form number is not 1 or a spare bit is set\n",
+            form,
             "",
             false,
         )?;
         // A line that cannot be read is told first, whatever the process is.
-        comes_of(
-            heap,
-            b"process 010a\nserial x\n",
-            "",
-            "line 2: a number has a character that is no decimal digit\n",
-            false,
-        )
+        let line = "line 2: a number has a character that is no decimal digit\n";
+        comes_of(heap, b"process 010a\nserial x\n", "", line, false)
     }
 }

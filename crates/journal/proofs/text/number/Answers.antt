@@ -31,9 +31,11 @@ loop-b-again c =
       | then-n-limit w ↦
           let n-is : 10 * c .loop-b .n + (b - 48) ≡ c .if-n-limit .n = omega (arith, w .n-is, w .from .ensures) in
           let fits : b - 48 < 2 ^ 8 = omega (arith, c .typed .word (c .loop-b .b-index)) in
-          subst (λ n. Stands limit n (10 * v + (b - 48))) n-is (stands-more limit (c .loop-b .n) v small (c .loop-b .inv) (b - 48) fits (w .if-n-limit .taken))
+          subst (λ n. Stands limit n (10 * v + (b - 48))) n-is
+          (stands-more limit (c .loop-b .n) v small (c .loop-b .inv) (b - 48) fits (w .if-n-limit .taken))
       | else-n-limit w ↦
-          subst (λ n. Stands limit n (10 * v + (b - 48))) (sym (w .n-is)) (stands-past limit (c .loop-b .n) v small (c .loop-b .inv) (b - 48) (w .if-n-limit .left))
+          subst (λ n. Stands limit n (10 * v + (b - 48))) (sym (w .n-is))
+          (stands-past limit (c .loop-b .n) v small (c .loop-b .inv) (b - 48) (w .if-n-limit .left))
     ] in
     subst (Stands limit (c .if-n-limit .n)) (sym (value-more ds (c .loop-b .b-index) (c .loop-b-test .taken))) stands
 
