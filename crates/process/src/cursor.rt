@@ -4,21 +4,21 @@ ghost use Rattle.process.specs.Reading.{expected};
 use crate::parts::Arrow;
 
 #[derive(Clone, Copy, Drop)]
-pub struct Cursor {
-    pub place: usize,
+pub(crate) struct Cursor {
+    pub(crate) place: usize,
     /// The header is read.
-    pub begun: bool,
+    pub(crate) begun: bool,
     /// How many steps there are.
-    pub steps: u16,
-    pub steps_left: u16,
-    pub arrows_left: u16,
+    pub(crate) steps: u16,
+    pub(crate) steps_left: u16,
+    pub(crate) arrows_left: u16,
     /// The last arrow that was read.
-    pub last: Arrow,
+    pub(crate) last: Arrow,
 }
 
 /// Which record comes next.
 #[derive(Clone, Copy, Drop)]
-pub enum Expected {
+pub(crate) enum Expected {
     HeaderRecord,
     StepRecord,
     ArrowRecord,
@@ -26,7 +26,7 @@ pub enum Expected {
 }
 
 impl Cursor {
-    pub fn expected(&self) -> Expected
+    pub(crate) fn expected(&self) -> Expected
         ensures { λ r. ⌜ r ≡ expected (now (self .entry)) ⌝ }
     {
         if !self.begun {

@@ -30,7 +30,7 @@ fn at(c: &Cursor, cause: Cause) -> Fault
 }
 
 /// The header: how many steps and arrows there are.
-pub fn header(xs: &[u8], c: &Cursor) -> Result<(u16, u16), Fault>
+pub(crate) fn header(xs: &[u8], c: &Cursor) -> Result<(u16, u16), Fault>
     ensures answer { λ r. ⌜ r ≡ answer (firstOf (checks HeaderRecord (now (xs .entry)) (now (c .entry))))
         (header-at (now (xs .entry)) 1, header-at (now (xs .entry)) 2) ⌝ }
     ensures long { λ r. ⌜ made r (λ _. 4 ≤ length (now (xs .entry))) ⌝ }
@@ -67,7 +67,7 @@ fn flags(word: u32) -> (Step, usize)
 }
 
 /// A step, and how long the name is that follows its two bytes.
-pub fn step(xs: &[u8], c: &Cursor) -> Result<(Step, usize), Fault>
+pub(crate) fn step(xs: &[u8], c: &Cursor) -> Result<(Step, usize), Fault>
     ensures answer { λ r. ⌜ r ≡ answer (firstOf (checks StepRecord (now (xs .entry)) (now (c .entry))))
         (step-of (word2 (now (xs .entry))), name-length (now (xs .entry))) ⌝ }
     ensures long { λ r. ⌜ made r (λ v. 2 + v .1 ≤ length (now (xs .entry))) ⌝ }
@@ -90,7 +90,7 @@ pub fn step(xs: &[u8], c: &Cursor) -> Result<(Step, usize), Fault>
 }
 
 /// An arrow, which comes after the last one.
-pub fn arrow(xs: &[u8], c: &Cursor) -> Result<Arrow, Fault>
+pub(crate) fn arrow(xs: &[u8], c: &Cursor) -> Result<Arrow, Fault>
     ensures answer { λ r. ⌜ r ≡ answer (firstOf (checks ArrowRecord (now (xs .entry)) (now (c .entry))))
         (read-arrow (now (xs .entry))) ⌝ }
     ensures long { λ r. ⌜ made r (λ _. 2 ≤ length (now (xs .entry))) ⌝ }

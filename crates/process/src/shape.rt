@@ -32,7 +32,7 @@ fn end_of(end: End, a: &Arrow) -> u16
 }
 
 /// How many arrows have that end at the step.
-pub fn ends_at(end: End, arrows: &[Arrow], step: usize) -> usize
+fn ends_at(end: End, arrows: &[Arrow], step: usize) -> usize
     ensures { λ r. ⌜ r ≡ ends-at end (now (arrows .entry)) step ⌝ }
 {
     let mut n = 0;
@@ -109,7 +109,7 @@ fn lowest_unfit(arrows: &[Arrow], steps: usize, marks: &Marks) -> Option<usize>
 }
 
 /// The lowest step that has more than 8 arrows out or in or is not reached from step 1.
-pub fn unfit_step(
+pub(crate) fn unfit_step(
     arrows: &[Arrow],
     steps: usize,
     marks: &mut Marks,

@@ -9,7 +9,7 @@ use std::alloc::Global;
 
 mod fill;
 
-pub use fill::filled;
+pub(crate) use fill::filled;
 
 /// How many steps a process may have.
 const MOST_STEPS: usize = 64;
@@ -39,7 +39,7 @@ impl Tables {
 
 /// The steps and arrows that were read so far.
 #[derive(Drop)]
-pub struct Draft {
+pub(crate) struct Draft {
     pub(crate) steps: Vec<Step>,
     pub(crate) arrows: Vec<Arrow>,
     ghost steps_room: { 64 ≤ vec-cap steps },

@@ -43,7 +43,7 @@ impl Draft {
 }
 
 /// The tables filled with the records of the input, or the first fault from left to right.
-pub fn filled(input: &[u8], tables: Tables) -> Result<Draft, Fault>
+pub(crate) fn filled(input: &[u8], tables: Tables) -> Result<Draft, Fault>
     ensures { λ r. ⌜ Cases r (Filled (now (input .entry))) (λ f. Scan (now (input .entry)) (Err f)) ⌝ }
 {
     let mut draft = Draft::new(tables);
