@@ -1,4 +1,6 @@
 // What a host is, what shuts and opens one, and the two hosts that stand on other hosts.
+#![tactic(auto)]
+
 mod calls;
 mod declines;
 mod hosts;

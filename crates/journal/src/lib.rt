@@ -1,4 +1,6 @@
 // Journals: from the text of a journal to what is printed of it.
+#![tactic(auto)]
+
 mod answers;
 mod names;
 mod outcomes;

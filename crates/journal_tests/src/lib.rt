@@ -1,4 +1,5 @@
 // Tests of the crate `journal`: texts and what they say, worked out by hand from the rules.
+#![tactic(auto)]
 
 #[cfg(test)]
 mod tests {

@@ -1,4 +1,6 @@
 // The ledger: a host that only adds lines, in a table that the caller brings.
+#![tactic(auto)]
+
 mod book;
 mod lines;
 

@@ -1,5 +1,7 @@
 //! The definitions of sheets, calls, rollbacks and runs stand in specs/. Each function here carries a law over them, which
 //! is its contract; none does anything.
+#![tactic(auto)]
+
 ghost use Rattle.model.specs.Examples.{ExamplesShow};
 ghost use Rattle.model.specs.Histories.{LawOverEveryRun};
 ghost use Rattle.model.specs.Laws.{SheetsAreOrderly, AfterIsReachedByArrows, StruckSetIsTheLeast, AbortsFall};

@@ -1,4 +1,6 @@
 // A stored process: the reader that hands out its records, and the process that is accepted.
+#![tactic(auto)]
+
 mod accepted;
 mod bits;
 mod cursor;

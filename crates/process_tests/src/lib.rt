@@ -1,4 +1,6 @@
 // Stored processes, sound and damaged, and the one answer that the rules name for each.
+#![tactic(auto)]
+
 ghost use Rattle.std.specs.Prelude.{◌≡◌};
 ghost use Rattle.process.specs.Stored.{stored};
 ghost use Rattle.process_tests.specs.Example.{competition};

@@ -1,4 +1,6 @@
 //! The rows of a sheet: a table that is read and written by row numbers, and its arrows as graphs.
+#![tactic(auto)]
+
 mod graphs;
 mod paths;
 mod row;

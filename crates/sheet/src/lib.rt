@@ -1,4 +1,6 @@
 //! The sheet of a competition: the calls that write it, and a run of events on it.
+#![tactic(auto)]
+
 mod charts;
 mod events;
 mod faults;

@@ -1,4 +1,6 @@
 // The program: replays a journal, from a file or from standard input.
+#![tactic(auto)]
+
 use anyhow::anyhow;
 use journal::Outcome;
 use std::io::Read;

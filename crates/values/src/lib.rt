@@ -1,4 +1,6 @@
 // The values that every layer shares: kinds and entries, states, phases, faults.
+#![tactic(auto)]
+
 ghost use Rattle.std.specs.Prelude.{◌≡◌};
 ghost use Rattle.values.specs.Numbers.{kind_number, flow_number, row_state_number, host_state_number, phase_number, cause_number, layer_number};
 ghost use Rattle.values.specs.Numbers.{same_state, same_host_state, same_phase, same_kind, in_range};
