@@ -46,7 +46,7 @@ returns g c =
       grown = c.loop-t.invariant.0;
       all = λ q a. elim (cases_lt c.loop-t.after q) [
         | inr low ↦ c.loop-t.invariant.1 q a low
-        | inl high ↦ absurd (c.in-default.ensures q high a)
+        | inl high ↦ absurd (c.in_default.ensures q high a)
       ];
       places = c.loop-t.invariant.2;
       same = c.loop-t.invariant.3;

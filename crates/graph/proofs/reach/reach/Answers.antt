@@ -10,7 +10,7 @@ pub seed-requires : goal.seed-requires
 seed-requires g c =
     let n = c.size-points.result in
     let enough = roomy_parts n (length c.args.line.now) (length (held c.args.marks.now))
-    c.if-not-has-room.ensures in
+    c.if-not-has_room.ensures in
     let most = unmarked_most n (held c.clear.new.self) in
     let none : length (waiting c.new-queue.result) ≡ 0 = ap length c.new-queue.ensures.waiting in
     record {
@@ -41,7 +41,7 @@ expand-requires g c =
     let s = search_at (m.arrow c.args.g.now) (Start k c.args.starts.now) k xs us (c.in-Some.p ∷ ws)
     c.in-Some.ensures.waiting c.loop-p.invariant.0 in
     let enough = roomy_parts n (length c.args.line.now) (length (held c.args.marks.now))
-    c.if-not-has-room.ensures in
+    c.if-not-has_room.ensures in
     record {
       few = omega (arith, enough.1, c.size-points.ensures);
       wide = omega (
@@ -104,12 +104,12 @@ returns g c =
     let xs₂ = held c.seed.new.marks in
     let xs = held c.loop-p.marks in
     let us = waiting c.loop-p.queue in
-    let s = search_at arrow begin n xs us [] c.in-default.ensures.waiting.0 c.loop-p.invariant.0 in
+    let s = search_at arrow begin n xs us [] c.in_default.ensures.waiting.0 c.loop-p.invariant.0 in
     let clear = kept_wiped {xs = xs₀} {ys = xs₁} c.clear.ensures.wiped in
     let after = kept_then {xs = xs₁} {ys = xs₂} {zs = xs} c.seed.ensures.grown.kept c.loop-p.invariant.1 in
     let kept = kept_then {xs = xs₀} {ys = xs₁} {zs = xs} clear after in
     record {
-      test = ◌∙◌ {b = room c.size-points.result} {c = room n} c.if-not-has-room.ensures (ap room c.size-points.ensures);
+      test = ◌∙◌ {b = room c.size-points.result} {c = room n} c.if-not-has_room.ensures (ap room c.size-points.ensures);
       explored = search_done arrow begin n {before = xs₀} xs kept s;
       same = three_steps
           c.loop-p.marks.column.ghost_name

@@ -2,7 +2,7 @@
 use Rattle.std.proofs.Common.{true, false, sym, refl, ◌∙◌, arith}
 use Rattle.host.proofs.Along.{later_same, come_more, come_all}
 use Rattle.host.proofs.calls.make_all.Goals as goal
-use Rattle.host.proofs.calls.make_all.Goals.{then-is-ok, else-is-ok}
+use Rattle.host.proofs.calls.make_all.Goals.{then-is_ok, else-is_ok}
 
 pub loop-call-init : goal.loop-call-init
 loop-call-init g c = (omega arith, omega arith, refl, later_same _)
@@ -13,12 +13,12 @@ loop-call-preserved g c =
     let v = g.X.Host.view c.loop-call.host in
     let w = g.X.Host.view c.make.new.host in
     let made = c.make.ensures in
-    let was = sym c.is-ok.ensures.value in
-    let more = come_more u v w c.args.calls.now c.loop-call.call-index c.loop-call.count c.if-is-ok.count _ c.make.result in
+    let was = sym c.is_ok.ensures.value in
+    let more = come_more u v w c.args.calls.now c.loop-call.call-index c.loop-call.count c.if-is_ok.count _ c.make.result in
     let sound = g.met.X.Host.sound c.loop-call.host in
-    elim c.if-is-ok.branch [
-      | then-is-ok x ↦ more true c.loop-call-test.true sound made.shows made.answers (was ∙ x.if-is-ok.true) x.count-is c.loop-call.invariant
-      | else-is-ok x ↦ more false c.loop-call-test.true sound made.shows made.answers (was ∙ x.if-is-ok.false) x.count-is c.loop-call.invariant
+    elim c.if-is_ok.branch [
+      | then-is_ok x ↦ more true c.loop-call-test.true sound made.shows made.answers (was ∙ x.if-is_ok.true) x.count-is c.loop-call.invariant
+      | else-is_ok x ↦ more false c.loop-call-test.true sound made.shows made.answers (was ∙ x.if-is_ok.false) x.count-is c.loop-call.invariant
     ]
 
 pub returns : goal.returns

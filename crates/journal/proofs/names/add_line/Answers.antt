@@ -8,6 +8,6 @@ use Rattle.journal.proofs.names.add_line.Goals as goal
 pub returns-in-ok-push : goal.returns-in-ok-push
 returns-in-ok-push c =
     let old = vec_items c.args.lines.now in
-    ap (map line_shown) c.in-ok-push.ensures.items ∙ map_push line_shown old c.in-ok-blank-line.field-0
-    ∙ ap (λ y. map line_shown old ++ y ∷ []) c.in-ok-blank-line.ensures
+    ap (map line_shown) c.in-ok-push.ensures.items ∙ map_push line_shown old c.in-ok-blank_line.field-0
+    ∙ ap (λ y. map line_shown old ++ y ∷ []) c.in-ok-blank_line.ensures
     ∙ ap (λ it. map line_shown old ++ line_before (record_of it) []) (sym c.in-Step.is)

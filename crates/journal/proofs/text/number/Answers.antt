@@ -41,7 +41,7 @@ returns-then-n-limit-2 c =
     let past : length ds ≤ c.loop-b.b-index = omega arith in
     let e : c.loop-b.n ≡ value ds = stands_below _ _ _ small c.loop-b.invariant c.if-n-limit-2.true ∙ ap value (take_all c.loop-b.b-index ds past) in
     ap (λ (n : ℕ). Ok n) e
-    ∙ number_fits c.args.limit ds (omega (arith, false-eqb _ 0 c.if-is-empty.ensures)) (sym c.if-not-every.ensures) (omega arith)
+    ∙ number_fits c.args.limit ds (omega (arith, false-eqb _ 0 c.if-is_empty.ensures)) (sym c.if-not-every.ensures) (omega arith)
 
 pub returns-else-n-limit-2 : goal.returns-else-n-limit-2
 returns-else-n-limit-2 c =
@@ -49,5 +49,5 @@ returns-else-n-limit-2 c =
     let small : c.from-limit.result < 2 ^ 32 = omega (arith, c.ranges.limit.fits) in
     let past : length ds ≤ c.loop-b.b-index = omega arith in
     let over = stands_above _ _ _ small c.loop-b.invariant c.if-n-limit-2.false in
-    number_past c.args.limit ds (omega (arith, false-eqb _ 0 c.if-is-empty.ensures)) (sym c.if-not-every.ensures)
+    number_past c.args.limit ds (omega (arith, false-eqb _ 0 c.if-is_empty.ensures)) (sym c.if-not-every.ensures)
     (omega (arith, over, ap value (take_all c.loop-b.b-index ds past)))

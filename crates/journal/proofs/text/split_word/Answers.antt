@@ -6,30 +6,30 @@ use Rattle.journal.specs.declared.text.Class.TheVariants.{Blank, Solid}
 use Rattle.journal.proofs.Words.{Cut, no_word, first_word}
 use Rattle.journal.proofs.text.split_word.Goals as goal
 
-pub split-at-requires : goal.split-at-requires
-split-at-requires c = omega (arith, c.leading.ensures, prefix_len-le-length (in_class Blank) c.args.line.now)
+pub split_at-requires : goal.split_at-requires
+split_at-requires c = omega (arith, c.leading.ensures, prefix_len-le-length (in_class Blank) c.args.line.now)
 
-pub split-at-requires-2 : goal.split-at-requires-2
-split-at-requires-2 c = omega (arith, c.leading-2.ensures, prefix_len-le-length (in_class Solid) c.split-at.result.1.now)
+pub split_at-requires-2 : goal.split_at-requires-2
+split_at-requires-2 c = omega (arith, c.leading-2.ensures, prefix_len-le-length (in_class Solid) c.split_at.result.1.now)
 
-pub returns-then-is-empty : goal.returns-then-is-empty
-returns-then-is-empty c =
-    let cut : Cut c.args.line.now c.split-at.result.1.now c.split-at-2.result.0.now c.split-at-2.result.1.now _ _ = record {
+pub returns-then-is_empty : goal.returns-then-is_empty
+returns-then-is_empty c =
+    let cut : Cut c.args.line.now c.split_at.result.1.now c.split_at-2.result.0.now c.split_at-2.result.1.now _ _ = record {
       m_is = c.leading.ensures;
-      after_is = c.split-at.ensures.back;
+      after_is = c.split_at.ensures.back;
       n_is = c.leading-2.ensures;
-      word_is = c.split-at-2.ensures.front;
-      rest_is = c.split-at-2.ensures.back;
+      word_is = c.split_at-2.ensures.front;
+      rest_is = c.split_at-2.ensures.back;
     } in
-    no_word cut (true-eqb _ 0 c.if-is-empty.ensures)
+    no_word cut (true-eqb _ 0 c.if-is_empty.ensures)
 
-pub returns-else-is-empty : goal.returns-else-is-empty
-returns-else-is-empty c =
-    let cut : Cut c.args.line.now c.split-at.result.1.now c.split-at-2.result.0.now c.split-at-2.result.1.now _ _ = record {
+pub returns-else-is_empty : goal.returns-else-is_empty
+returns-else-is_empty c =
+    let cut : Cut c.args.line.now c.split_at.result.1.now c.split_at-2.result.0.now c.split_at-2.result.1.now _ _ = record {
       m_is = c.leading.ensures;
-      after_is = c.split-at.ensures.back;
+      after_is = c.split_at.ensures.back;
       n_is = c.leading-2.ensures;
-      word_is = c.split-at-2.ensures.front;
-      rest_is = c.split-at-2.ensures.back;
+      word_is = c.split_at-2.ensures.front;
+      rest_is = c.split_at-2.ensures.back;
     } in
-    first_word cut (omega (arith, false-eqb _ 0 c.if-is-empty.ensures))
+    first_word cut (omega (arith, false-eqb _ 0 c.if-is_empty.ensures))

@@ -13,16 +13,16 @@ loop-a-preserved c =
     let zs = c.args.arrows.now in
     let i = c.loop-a.a-index in
     let here : Arrow → Bool = λ a. eqb (end_of c.args.end a) c.args.step in
-    let came = c.end-of.ensures in
-    elim c.if-end-of-step.branch [
-      | then-end-of-step w ↦ (
+    let came = c.end_of.ensures in
+    elim c.if-end_of-step.branch [
+      | then-end_of-step w ↦ (
         w.n_is ∙ ap (λ n. n + 1) c.loop-a.invariant.0
-            ∙ sym (count_by_more_yes here zs i no_arrow c.loop-a-test.true (grind (arith, nat_tests, w.if-end-of-step.true))),
+            ∙ sym (count_by_more_yes here zs i no_arrow c.loop-a-test.true (grind (arith, nat_tests, w.if-end_of-step.true))),
         omega (arith, w.n_is, c.loop-a.invariant.1),
       )
-      | else-end-of-step w ↦ (
+      | else-end_of-step w ↦ (
         w.n_is ∙ c.loop-a.invariant.0
-            ∙ sym (count_by_more_no here zs i no_arrow c.loop-a-test.true (grind (arith, nat_tests, w.if-end-of-step.false))),
+            ∙ sym (count_by_more_no here zs i no_arrow c.loop-a-test.true (grind (arith, nat_tests, w.if-end_of-step.false))),
         omega (arith, w.n_is, c.loop-a.invariant.1),
       )
     ]

@@ -4,7 +4,7 @@ use Rattle.process.proofs.Targets.{Missed, none_hit, none_past, first_hit}
 use Rattle.process.proofs.shape.least_target.Goals as goal
 
 pub loop-a-preserved : goal.loop-a-preserved
-loop-a-preserved c = below_more _ _ c.loop-a.invariant (sym c.if-is-hit.ensures)
+loop-a-preserved c = below_more _ _ c.loop-a.invariant (sym c.if-is_hit.ensures)
 
 pub returns : goal.returns
 returns c =
@@ -18,7 +18,7 @@ returns-then-a-from c =
     none_past c.args.arrows.now c.args.steps c.args.from c.args.after c.requires.sorted
     c.loop-a.a-index c.loop-a-test.true c.if-a-from.true c.loop-a.invariant
 
-pub returns-then-is-hit : goal.returns-then-is-hit
-returns-then-is-hit c =
+pub returns-then-is_hit : goal.returns-then-is_hit
+returns-then-is_hit c =
     first_hit c.args.arrows.now c.args.steps c.args.from c.args.after c.requires.sorted
-    c.loop-a.a-index c.loop-a-test.true c.requires.from (sym c.if-is-hit.ensures) c.loop-a.invariant
+    c.loop-a.a-index c.loop-a-test.true c.requires.from (sym c.if-is_hit.ensures) c.loop-a.invariant

@@ -13,7 +13,7 @@ returns c =
     let ok : is_ok c.reach.result ≡ true = c.reach.ensures.test ∙ room in
     let explored = at_ok _ _ c.reach.result ok c.reach.ensures.explored in
     record {
-      shaped = shaped_from c.args.arrows.now c.args.steps _ _ explored _ c.lowest-unfit.ensures;
+      shaped = shaped_from c.args.arrows.now c.args.steps _ _ explored _ c.lowest_unfit.ensures;
       kept = record { rest = explored.rest; size = explored.size };
       same = c.reach.ensures.same;
     }

@@ -10,7 +10,7 @@ loop-x-preserved c =
     let xs = c.args.list.now in
     let i = c.loop-x.x-index in
     let Next : Option ℕ → Type 0 = Least (λ k. has k (take (i + 1) xs) ≡ true) c.args.after in
-    subst Next (sym c.least-with-least.ensures)
+    subst Next (sym c.least_with-least.ensures)
     (least_next xs i c.args.after c.loop-x.least c.loop-x-test.true c.loop-x.invariant)
 
 pub returns : goal.returns

@@ -9,12 +9,12 @@ pub loop-i-preserved : goal.loop-i-preserved
 loop-i-preserved c =
     let xs = c.loop-i.numbers in
     let i = c.loop-i.i in
-    let v = c.if-is-set.numbers in
+    let v = c.if-is_set.numbers in
     let p : ℕ → Bool = marked (held c.args.marks.now) in
     let number : Bool → ℕ = λ b. cond b (i + 1) 0 in
-    let is : v ≡ number (p (i + 1)) = elim c.if-is-set.branch [
-      | then-is-set w ↦ w.numbers-is ∙ ap number (sym w.if-is-set.true ∙ c.is-set.ensures)
-      | else-is-set w ↦ w.numbers-is ∙ ap number (sym w.if-is-set.false ∙ c.is-set.ensures)
+    let is : v ≡ number (p (i + 1)) = elim c.if-is_set.branch [
+      | then-is_set w ↦ w.numbers-is ∙ ap number (sym w.if-is_set.true ∙ c.is_set.ensures)
+      | else-is_set w ↦ w.numbers-is ∙ ap number (sym w.if-is_set.false ∙ c.is_set.ensures)
     ] in (
       length-set xs i v ∙ c.loop-i.invariant.0,
       passing_more p xs i v (omega arith) is c.loop-i.invariant.1,

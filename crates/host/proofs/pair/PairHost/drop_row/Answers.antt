@@ -9,13 +9,13 @@ returns-then-is g c =
     let first = g.X.Host.view c.args.self.now.first in
     let second = g.Y.Host.view c.args.self.now.second in
     let unknown = ap is_unknown (sym c.state.ensures) ∙ sym c.if-is.ensures in
-    moves_second c.args.self.now.kind first second (sym c.if-is-shut.ensures) c.args.row _ _ c.drop-row.result
-    unknown _ c.drop-row.ensures
+    moves_second c.args.self.now.kind first second (sym c.if-is_shut.ensures) c.args.row _ _ c.drop_row.result
+    unknown _ c.drop_row.ensures
 
 pub returns-else-is : goal.returns-else-is
 returns-else-is g c =
     let first = g.X.Host.view c.args.self.now.first in
     let second = g.Y.Host.view c.args.self.now.second in
     let known = ap is_unknown (sym c.state.ensures) ∙ sym c.if-is.ensures in
-    moves_first c.args.self.now.kind first second (sym c.if-is-shut.ensures) c.args.row _ _ c.drop-row-else-is.result
-    refl known _ c.drop-row-else-is.ensures
+    moves_first c.args.self.now.kind first second (sym c.if-is_shut.ensures) c.args.row _ _ c.drop_row-else-is.result
+    refl known _ c.drop_row-else-is.ensures

@@ -9,7 +9,7 @@ returns-then-is g c =
     let first = g.X.Host.view c.args.self.now.first in
     let second = g.Y.Host.view c.args.self.now.second in
     let unknown = ap is_unknown (sym c.state.ensures) ∙ sym c.if-is.ensures in
-    moves_second c.args.self.now.kind first second (sym c.if-is-shut.ensures) c.args.row _ _ c.undo.result
+    moves_second c.args.self.now.kind first second (sym c.if-is_shut.ensures) c.args.row _ _ c.undo.result
     unknown _ c.undo.ensures
 
 pub returns-else-is : goal.returns-else-is
@@ -17,5 +17,5 @@ returns-else-is g c =
     let first = g.X.Host.view c.args.self.now.first in
     let second = g.Y.Host.view c.args.self.now.second in
     let known = ap is_unknown (sym c.state.ensures) ∙ sym c.if-is.ensures in
-    moves_first c.args.self.now.kind first second (sym c.if-is-shut.ensures) c.args.row _ _ c.undo-else-is.result
+    moves_first c.args.self.now.kind first second (sym c.if-is_shut.ensures) c.args.row _ _ c.undo-else-is.result
     refl known _ c.undo-else-is.ensures

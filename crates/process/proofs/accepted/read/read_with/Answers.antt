@@ -26,13 +26,13 @@ returns-in-err-draft c =
       same = search rules;
     }
 
-pub unfit-step-requires : goal.unfit-step-requires
-unfit-step-requires c =
+pub unfit_step-requires : goal.unfit_step-requires
+unfit_step-requires c =
     let xs = c.args.input.now in
     let f = c.in-ok-draft.ensures in
     let formed = (scan_outcome xs (bytes_from xs (λ i. (c.type-inv.input i).fits)) nothing_read f.scan).0 in
     let n_is = draft_steps c.in-ok-draft.draft f.plan f.holds in
-    let zs-is = c.as-slice.ensures.value ∙ draft_arrows c.in-ok-draft.draft f.plan f.holds in
+    let zs-is = c.as_slice.ensures.value ∙ draft_arrows c.in-ok-draft.draft f.plan f.holds in
     record {
       steps = omega (arith, formed.few_steps);
       column = c.requires.column;
@@ -46,7 +46,7 @@ returns-in-Some c =
     let d = c.in-ok-draft.draft in
     let f = c.in-ok-draft.ensures in
     let shaped = shaped_at (Some c.in-Some.place)
-    (c.as-slice.ensures.value ∙ draft_arrows d f.plan f.holds)
+    (c.as_slice.ensures.value ∙ draft_arrows d f.plan f.holds)
     (c.len-steps.ensures ∙ draft_steps d f.plan f.holds) c.in-Some.ensures.shaped in
     record {
       reading = reading_from xs _ _ (bytes_from xs (λ i. (c.type-inv.input i).fits)) (unfit f.scan shaped) refl;
@@ -60,7 +60,7 @@ new-requires c =
     let d = c.in-ok-draft.draft in
     let f = c.in-ok-draft.ensures in
     let shaped = shaped_at None
-    (c.as-slice.ensures.value ∙ draft_arrows d f.plan f.holds)
+    (c.as_slice.ensures.value ∙ draft_arrows d f.plan f.holds)
     (c.len-steps.ensures ∙ draft_steps d f.plan f.holds) c.in-None.ensures.shaped in
     let formed = (scan_outcome xs (bytes_from xs (λ i. (c.type-inv.input i).fits)) nothing_read f.scan).0 in
     record { plan = f.plan; sound = record { formed = formed; fine = shaped }; holds = f.holds }
@@ -71,7 +71,7 @@ returns-in-None c =
     let d = c.in-ok-draft.draft in
     let f = c.in-ok-draft.ensures in
     let shaped = shaped_at None
-    (c.as-slice.ensures.value ∙ draft_arrows d f.plan f.holds)
+    (c.as_slice.ensures.value ∙ draft_arrows d f.plan f.holds)
     (c.len-steps.ensures ∙ draft_steps d f.plan f.holds) c.in-None.ensures.shaped in
     record {
       reading = reading_from xs _ _ (bytes_from xs (λ i. (c.type-inv.input i).fits)) (accepted f.scan shaped) (c.new.ensures ∙ f.holds);

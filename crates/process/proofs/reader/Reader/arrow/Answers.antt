@@ -29,7 +29,7 @@ returns c =
         begun = self.cursor.begun;
         steps = self.cursor.steps;
         steps_left = self.cursor.steps_left;
-        arrows_left = c.saturating-sub-self.ensures i;
+        arrows_left = c.saturating_sub-self.ensures i;
         last = arrow i;
       },
     )) in

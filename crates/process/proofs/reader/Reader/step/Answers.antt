@@ -35,7 +35,7 @@ returns c =
         place = self.cursor.place + (2 + len i);
         begun = self.cursor.begun;
         steps = self.cursor.steps;
-        steps_left = c.saturating-sub-self.ensures i;
+        steps_left = c.saturating_sub-self.ensures i;
         arrows_left = self.cursor.arrows_left;
         last = self.cursor.last;
       },

@@ -14,7 +14,7 @@ returns c =
     let chart = steps_only c.args.self.now.steps.now in
     let joins = joins_cut (vec_items t.rows) t.lower t.positive chart in
     let after = c.args.after in
-    let least = c.least-above.result in
+    let least = c.least_above.result in
     let P : List ℕ → Type 0 = λ xs. Least (λ k. has k xs ≡ true) after least in
     least_drawn (rows_of t).count (back (uncut chart (rows_of t))) joins c.args.from after least
-    (subst P (c.as-slice.ensures ∙ c.uncut.ensures) c.least-above.ensures)
+    (subst P (c.as_slice.ensures ∙ c.uncut.ensures) c.least_above.ensures)

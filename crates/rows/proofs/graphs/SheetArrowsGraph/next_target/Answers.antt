@@ -8,5 +8,5 @@ pub returns : goal.returns
 returns c =
     let t = c.args.self.now.table.now in
     let joins = joins_forth (vec_items t.rows) t.lower t.positive in
-    least_drawn (rows_of t).count (forth (rows_of t).preds) joins c.args.from c.args.after c.next-follower.result
-    c.next-follower.ensures
+    least_drawn (rows_of t).count (forth (rows_of t).preds) joins c.args.from c.args.after c.next_follower.result
+    c.next_follower.ensures

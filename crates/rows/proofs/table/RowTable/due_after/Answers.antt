@@ -7,10 +7,10 @@ use Rattle.rows.specs.Tables.{rows_of}
 use Rattle.rows.proofs.Later.{none_later, lowest_later}
 use Rattle.rows.proofs.table.RowTable.due_after.Goals as goal
 
-pub returns-then-not-any-due-above : goal.returns-then-not-any-due-above
-returns-then-not-any-due-above c =
+pub returns-then-not-any_due_above : goal.returns-then-not-any_due_above
+returns-then-not-any_due_above c =
     let t = c.args.self.now in
-    let none = sym c.if-not-any-due-above.ensures in
+    let none = sym c.if-not-any_due_above.ensures in
     record {
       test = sym (or_left (not (due_above (rows_of t) c.args.row)) _ (not_from_false _ none));
       answer = sym (none_later (vec_items t.rows) t.lower t.positive c.args.row none);

@@ -8,23 +8,23 @@ use Rattle.rows.proofs.table.RowTable.fall.Goals as goal
 pub invariant-of-self : goal.invariant-of-self
 invariant-of-self c =
     let t = c.args.self.now in
-    let new = c.fall-all.new.rows in
+    let new = c.fall_all.new.rows in
     let mark : ℕ → Bool = marked (held c.args.marks.now) in
-    let long : length new.items ≡ length t.rows.items = sym new.ok.0 ∙ c.fall-all.ensures.len ∙ t.rows.ok.0 in (
-      lower_fell c.args.steps.now mark c.args.number t.rows.items new.items long c.fall-all.ensures.rows t.lower,
+    let long : length new.items ≡ length t.rows.items = sym new.ok.0 ∙ c.fall_all.ensures.len ∙ t.rows.ok.0 in (
+      lower_fell c.args.steps.now mark c.args.number t.rows.items new.items long c.fall_all.ensures.rows t.lower,
       (
-        positive_fell c.args.steps.now mark c.args.number t.rows.items new.items long c.fall-all.ensures.rows t.positive,
-        (omega (arith, c.fall-all.ensures.len, t.few), (omega (arith, c.fall-all.ensures.capacity, t.reserved), tt)),
+        positive_fell c.args.steps.now mark c.args.number t.rows.items new.items long c.fall_all.ensures.rows t.positive,
+        (omega (arith, c.fall_all.ensures.len, t.few), (omega (arith, c.fall_all.ensures.capacity, t.reserved), tt)),
       ),
     )
 
 pub returns : goal.returns
 returns c =
     let t = c.args.self.now in
-    let new = c.fall-all.new.rows in
+    let new = c.fall_all.new.rows in
     let mark : ℕ → Bool = marked (held c.args.marks.now) in
-    let long : length new.items ≡ length t.rows.items = sym new.ok.0 ∙ c.fall-all.ensures.len ∙ t.rows.ok.0 in
+    let long : length new.items ≡ length t.rows.items = sym new.ok.0 ∙ c.fall_all.ensures.len ∙ t.rows.ok.0 in
     record {
-      rows = columns_fell c.args.steps.now mark c.args.number t.rows.items new.items long c.fall-all.ensures.rows;
-      rolled = ap {B = ℕ → ℕ} (λ (f : ℕ → Row) k. (f k).rolled) c.fall-all.ensures.rows;
+      rows = columns_fell c.args.steps.now mark c.args.number t.rows.items new.items long c.fall_all.ensures.rows;
+      rolled = ap {B = ℕ → ℕ} (λ (f : ℕ → Row) k. (f k).rolled) c.fall_all.ensures.rows;
     }

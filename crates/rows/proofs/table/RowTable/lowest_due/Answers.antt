@@ -10,8 +10,8 @@ use Rattle.rows.proofs.Below.{first_is, first_none, above_more, none_above}
 use Rattle.rows.proofs.table.RowTable.lowest_due.Goals as goal
 use Rattle.rows.proofs.table.RowTable.lowest_due.Goals.{else-is-via-then-is+else-is-set, else-is-via-else-is}
 
-pub returns-then-is-set : goal.returns-then-is-set
-returns-then-is-set c =
+pub returns-then-is_set : goal.returns-then-is_set
+returns-then-is_set c =
     let r = rows_of c.args.self.now in
     let xs = held c.args.marks.now in
     let row = c.args.row in
@@ -19,7 +19,7 @@ returns-then-is-set c =
     let p : ℕ → Bool = λ v. in_state r Due v && marked xs v in
     let above : row < k = omega arith in
     let due = ap (λ s. same_state s Due) (sym c.state.ensures) ∙ sym c.if-is.ensures in
-    let both = and_from (in_state r Due k) (marked xs k) due (sym c.if-is-set.ensures) in
+    let both = and_from (in_state r Due k) (marked xs k) due (sym c.if-is_set.ensures) in
     sym (first_is (r.count + 1) (λ v. ltb row v && p v) k (omega arith)
     (and_from (ltb row k) (p k) (lt-ltb row k above) both) (none_above p row k c.loop-k.invariant))
 
@@ -29,8 +29,8 @@ loop-k-preserved c =
     let xs = held c.args.marks.now in
     let k = c.loop-k.k in
     let here : (in_state r Due k && marked xs k) ≡ false = elim c.else-is.branch [
-      | else-is-via-then-is+else-is-set w ↦
-          and_right (in_state r Due k) (marked xs k) (sym w.is-set.ensures ∙ w.if-is-set.false)
+      | else-is-via-then-is+else-is_set w ↦
+          and_right (in_state r Due k) (marked xs k) (sym w.is_set.ensures ∙ w.if-is_set.false)
       | else-is-via-else-is w ↦
           and_left (in_state r Due k) (marked xs k)
           (ap (λ s. same_state s Due) (sym c.state.ensures) ∙ sym c.is.ensures ∙ w.if-is.false)

@@ -12,8 +12,8 @@ returns c =
     record {
       test = done.test;
       marked = MatchResult-weaker c.reach.result done.explored
-          (λ _ e. all_marked rows t.lower t.positive (omega (arith, t.few, t.rows.ok.0)) c.all-numbers.result
-          (held c.reach.new.marks) c.all-numbers.ensures e)
+          (λ _ e. all_marked rows t.lower t.positive (omega (arith, t.few, t.rows.ok.0)) c.all_numbers.result
+          (held c.reach.new.marks) c.all_numbers.ensures e)
           (λ _ e. e);
       kept = walk_keeps c.reach.result _ _ (held c.args.marks.now) (held c.reach.new.marks)
           c.args.line.now c.reach.new.line done.explored;

@@ -12,12 +12,12 @@ pub returns-in-Complete : goal.returns-in-Complete
 returns-in-Complete c =
     let t = c.args.self.now in
     let chart = steps_only c.args.steps.now in
-    let xs = held c.mark-all.new.marks in
+    let xs = held c.mark_all.new.marks in
     let Struck : Mode → Type 0 = λ m. StruckMarked chart (rows_of t) m xs in
-    let done = c.mark-all.ensures in
+    let done = c.mark_all.ensures in
     record {
       test = done.test;
-      marked = MatchResult-weaker c.mark-all.result done.marked
+      marked = MatchResult-weaker c.mark_all.result done.marked
           (λ _ all. subst Struck (sym c.in-Complete.is) (struck_all chart (vec_items t.rows) xs all))
           (λ _ e. e);
       kept = done.kept;

@@ -15,5 +15,5 @@ returns-then-number-eq0 c =
 pub returns : goal.returns
 returns c =
     let rows = c.args.self.now.rows in
-    c.as-slice.ensures ∙ ap (λ r. listed r.predecessors)
+    c.as_slice.ensures ∙ ap (λ r. listed r.predecessors)
     (row_inside rows.items c.args.number _ (omega arith) (omega (arith, rows.ok.0)) c.index.ensures)

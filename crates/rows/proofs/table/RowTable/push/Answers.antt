@@ -47,7 +47,7 @@ invariant-of-self c =
     let rows = s.rows.items in
     let fs = c.args.predecessors.now in
     let f = fitting rows fs (sym c.if-not-fits.ensures) in
-    let p = c.push-reserved.ensures in
+    let p = c.push_reserved.ensures in
     let e = all_kept fs c.new.result f.few c.new.ensures in (
       subst (λ (xs : List Row). Lower (preds_of xs)) (sym p.items)
           (lower_added rows c.args.step c.new.result fs c.args.entry e s.lower (λ x m. (f.inside x m).1)),
@@ -65,7 +65,7 @@ returns c =
     let fs = c.args.predecessors.now in
     let ok = sym c.if-not-fits.ensures in
     let f = fitting rows fs ok in
-    let p = c.push-reserved.ensures in
+    let p = c.push_reserved.ensures in
     let e = all_kept fs c.new.result f.few c.new.ensures in
     record {
       fits = sym ok;

@@ -29,16 +29,16 @@ loop-w-preserved c =
     let passes : ℕ → Bool = λ w. not (is_savepoint (steps_only c.args.steps.now) (rows_of c.args.self.now) w) in
     let few = listed_few (row_at (vec_items c.args.self.now.rows) c.args.row).predecessors in
     let room : k < length ys = omega (arith, few, ap length c.predecessors-w-items.ensures, c.loop-w.invariant.1, c.loop-w.invariant.2) in
-    elim c.if-not-is-savepoint.branch [
-      | then-not-is-savepoint w ↦ (
+    elim c.if-not-is_savepoint.branch [
+      | then-not-is_savepoint w ↦ (
         ap₂ take w.count-is w.numbers-is
-            ∙ front_yes passes xs ys k i inside c.loop-w.invariant.0 room (not_from_false _ (sym w.if-not-is-savepoint.ensures)),
+            ∙ front_yes passes xs ys k i inside c.loop-w.invariant.0 room (not_from_false _ (sym w.if-not-is_savepoint.ensures)),
         omega (arith, w.count-is, c.loop-w.invariant.1),
         ap length w.numbers-is ∙ length-set ys k _ ∙ c.loop-w.invariant.2,
       )
-      | else-not-is-savepoint w ↦ (
+      | else-not-is_savepoint w ↦ (
         ap₂ take w.count-is w.numbers-is
-            ∙ front_no passes xs ys k i inside c.loop-w.invariant.0 (not_from_true _ (sym w.if-not-is-savepoint.ensures)),
+            ∙ front_no passes xs ys k i inside c.loop-w.invariant.0 (not_from_true _ (sym w.if-not-is_savepoint.ensures)),
         omega (arith, w.count-is, c.loop-w.invariant.1),
         ap length w.numbers-is ∙ c.loop-w.invariant.2,
       )

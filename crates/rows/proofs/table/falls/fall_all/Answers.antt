@@ -20,7 +20,7 @@ loop-i-preserved c =
     let i = c.loop-i.i in
     let here : i < length rows.items = omega (arith, c.loop-i-test.true, c.len-i-end.ensures, rows.ok.0, c.loop-i.invariant.1) in
     let is = row_index rows.items i _ here c.index.ensures in
-    let wrote = c.fallen-row.ensures ∙ ap (λ b. row_fallen steps b number c.index.result.now) c.is-set.ensures in (
+    let wrote = c.fallen_row.ensures ∙ ap (λ b. row_fallen steps b number c.index.result.now) c.is_set.ensures in (
       ap (λ (x : Row). row_at (set rows.items i x)) wrote
           ∙ fell_more steps mark number c.args.rows.now.items rows.items i _ c.loop-i.invariant.0 here is,
       c.loop-i.invariant.1,

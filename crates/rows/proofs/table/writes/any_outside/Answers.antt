@@ -5,15 +5,15 @@ use Rattle.std.proofs.lemmas.Bool.{not_from_true, not_from_false}
 use Rattle.rows.proofs.Lists.{any_more, any_found}
 use Rattle.rows.proofs.table.writes.any_outside.Goals as goal
 
-pub returns-then-not-is-row : goal.returns-then-not-is-row
-returns-then-not-is-row c =
+pub returns-then-not-is_row : goal.returns-then-not-is_row
+returns-then-not-is_row c =
     sym (any_found (λ x. not (leb 1 x && leb x c.args.count)) c.args.list.now c.loop-x.x-index 0
-    c.loop-x-test.true (not_from_false _ (sym c.if-not-is-row.ensures)))
+    c.loop-x-test.true (not_from_false _ (sym c.if-not-is_row.ensures)))
 
 pub loop-x-preserved : goal.loop-x-preserved
 loop-x-preserved c =
     any_more (λ x. not (leb 1 x && leb x c.args.count)) c.args.list.now c.loop-x.x-index 0 c.loop-x-test.true
-    c.loop-x.invariant (not_from_true _ (sym c.if-not-is-row.ensures))
+    c.loop-x.invariant (not_from_true _ (sym c.if-not-is_row.ensures))
 
 pub returns : goal.returns
 returns c =

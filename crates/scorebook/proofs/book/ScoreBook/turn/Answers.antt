@@ -13,10 +13,10 @@ returns c =
     let did = c.restate.ensures in
     let from = c.args.from in
     let here = ap (λ s. same_host_state s from) (sym c.state.ensures) ∙ sym c.if-not-is.ensures in
-    let none = turn_passes from (free_of b) (records_of b) c.args.row c.requires.was-known b.sound here in
+    let none = turn_passes from (free_of b) (records_of b) c.args.row c.requires.was_known b.sound here in
     record {
       does =
-          turn_moves from c.args.to _ _ (records_of b) _ c.args.row c.requires.was-known b.sound here
+          turn_moves from c.args.to _ _ (records_of b) _ c.args.row c.requires.was_known b.sound here
           did.free did.records;
       turns = record {
         records = did.records ∙ ap (λ f. after f (records_of b) (turned (records_of b) c.args.row c.args.to)) (sym none);

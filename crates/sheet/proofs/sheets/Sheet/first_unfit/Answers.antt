@@ -4,15 +4,15 @@ use Rattle.rows.proofs.Numbered.{first_below_more, first_below_found}
 use Rattle.sheet.specs.SheetOf.{sheet_of, chart_of}
 use Rattle.sheet.proofs.sheets.Sheet.first_unfit.Goals as goal
 
-pub returns-then-is-unfit : goal.returns-then-is-unfit
-returns-then-is-unfit c =
+pub returns-then-is_unfit : goal.returns-then-is_unfit
+returns-then-is_unfit c =
     let s = c.args.self.now in
     let fs = c.args.predecessors.now in
     let test : ℕ → Bool = unfit_at (chart_of s) (sheet_of s).rows c.args.step fs in
-    first_below_found c.loop-place.place (length fs) test c.loop-place-test.true c.loop-place.invariant (sym c.if-is-unfit.ensures)
+    first_below_found c.loop-place.place (length fs) test c.loop-place-test.true c.loop-place.invariant (sym c.if-is_unfit.ensures)
 
 pub loop-place-preserved : goal.loop-place-preserved
 loop-place-preserved c =
     let s = c.args.self.now in
     let test : ℕ → Bool = unfit_at (chart_of s) (sheet_of s).rows c.args.step c.args.predecessors.now in
-    first_below_more c.loop-place.place test c.loop-place.invariant (sym c.if-is-unfit.ensures)
+    first_below_more c.loop-place.place test c.loop-place.invariant (sym c.if-is_unfit.ensures)

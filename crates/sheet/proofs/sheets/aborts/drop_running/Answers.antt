@@ -17,16 +17,16 @@ loop-number-preserved g c =
     let n = c.loop-number.number in
     let v : View = g.X.Host.view c.args.host.now in
     let inv = c.loop-number.invariant in
-    elim c.if-is-in.branch [
-      | then-is-in w ↦
-          let here = sym w.if-is-in.ensures in
-          let moves = simp w.row-key.ensures at w.drop-row.ensures.shows in
+    elim c.if-is_in.branch [
+      | then-is_in w ↦
+          let here = sym w.if-is_in.ensures in
+          let moves = simp w.row_key.ensures at w.drop_row.ensures.shows in
           ap g.X.Host.view w.host-is ∙ moves
           ∙ ap (λ (x : View). after (first_fault (move_checks Open x (key_of n))) x (moved Void x (key_of n))) inv
           ∙ ap (λ o. after o (dropped_below runs n v) (moved Void (dropped_below runs n v) (key_of n)))
           (still_droppable runs n v (c.requires n here))
           ∙ dropped_one runs n v here
-      | else-is-in w ↦ ap g.X.Host.view w.host-is ∙ inv ∙ dropped_none runs n v (sym w.if-is-in.ensures)
+      | else-is_in w ↦ ap g.X.Host.view w.host-is ∙ inv ∙ dropped_none runs n v (sym w.if-is_in.ensures)
     ]
 
 pub returns : goal.returns

@@ -9,14 +9,14 @@ pub rows-preserved : goal.rows-preserved
 rows-preserved g c =
     let r = rows_of c.args.table.now in
     let v = g.X.Host.view c.args.host.now in
-    (first_below_more c.rows.number (not_open r v) c.rows.invariant.0 (sym c.if-is-not-open.ensures), c.rows.invariant.1)
+    (first_below_more c.rows.number (not_open r v) c.rows.invariant.0 (sym c.if-is_not_open.ensures), c.rows.invariant.1)
 
-pub returns-then-is-not-open : goal.returns-then-is-not-open
-returns-then-is-not-open g c =
+pub returns-then-is_not_open : goal.returns-then-is_not_open
+returns-then-is_not_open g c =
     let r = rows_of c.args.table.now in
     let v = g.X.Host.view c.args.host.now in
     first_below_found c.rows.number (r.count + 1) (not_open r v) (omega (arith, c.rows-test.true, c.len-number-end.ensures))
-    c.rows.invariant.0 (sym c.if-is-not-open.ensures)
+    c.rows.invariant.0 (sym c.if-is_not_open.ensures)
 
 pub returns-after-rows : goal.returns-after-rows
 returns-after-rows g c =

@@ -6,14 +6,14 @@ use Rattle.rows.specs.Tables.{rows_of}
 use Rattle.sheet.proofs.Aborting.{none_found}
 use Rattle.sheet.proofs.sheets.aborts.lowest_shut.Goals as goal
 
-pub returns-then-not-is-shut : goal.returns-then-not-is-shut
-returns-then-not-is-shut g c =
+pub returns-then-not-is_shut : goal.returns-then-not-is_shut
+returns-then-not-is_shut g c =
     let r = rows_of c.args.table.now in
-    sym (ap (λ (b : Bool). first_below (r.count + 1) (λ k. b && in_state r Running k)) (sym c.if-not-is-shut.ensures)
+    sym (ap (λ (b : Bool). first_below (r.count + 1) (λ k. b && in_state r Running k)) (sym c.if-not-is_shut.ensures)
     ∙ none_found (r.count + 1) (in_state r Running))
 
 pub returns : goal.returns
 returns g c =
     let r = rows_of c.args.table.now in
     c.lowest.ensures
-    ∙ ap (λ (b : Bool). first_below (r.count + 1) (λ k. b && in_state r Running k)) c.if-not-is-shut.ensures
+    ∙ ap (λ (b : Bool). first_below (r.count + 1) (λ k. b && in_state r Running k)) c.if-not-is_shut.ensures

@@ -18,15 +18,15 @@ add-requires c =
     let more = fee_room c.args.entry.kind (free_of b) c.room.result c.room.ensures c.if-room-eq0.false in
     let left : 0 < free_of b = more.1 in
     record {
-      row = sym c.if-not-is-row.ensures;
+      row = sym c.if-not-is_row.ensures;
       follows = subst (λ o. Follows o (hold_line c.args.row c.args.entry)) (sym none) refl;
       room = omega (arith, left);
     }
 
-pub returns-then-not-is-row : goal.returns-then-not-is-row
-returns-then-not-is-row c =
+pub returns-then-not-is_row : goal.returns-then-not-is_row
+returns-then-not-is_row c =
     let b = c.args.self.now in
-    let other = begin_declined (ledger_view b) c.args.row refl c.args.entry.kind (and_left _ _ (sym c.if-not-is-row.ensures)) in
+    let other = begin_declined (ledger_view b) c.args.row refl c.args.entry.kind (and_left _ _ (sym c.if-not-is_row.ensures)) in
     let did = hold_declined b c.args.row c.args.entry c.declined.result (fault_at OtherState c.args.row) other c.declined.ensures in
     record { does = did.0; writes = did.1 }
 
@@ -43,7 +43,7 @@ pub returns-then-room-eq0 : goal.returns-then-room-eq0
 returns-then-room-eq0 c =
     let b = c.args.self.now in
     let unknown = ap is_unknown (sym c.state.ensures) ∙ sym c.if-not-is.ensures in
-    let may = and_from _ _ (sym c.if-not-is-row.ensures) unknown in
+    let may = and_from _ _ (sym c.if-not-is_row.ensures) unknown in
     let full = begin_full (ledger_view b) c.args.row refl c.args.entry.kind may (sym c.room.ensures ∙ c.if-room-eq0.true) in
     let did = hold_declined b c.args.row c.args.entry c.declined-then-room-eq0.result (fault_at NoRoom c.args.row)
     full c.declined-then-room-eq0.ensures in
@@ -53,7 +53,7 @@ pub returns : goal.returns
 returns c =
     let b = c.args.self.now in
     let unknown = ap is_unknown (sym c.state.ensures) ∙ sym c.if-not-is.ensures in
-    let may = and_from _ _ (sym c.if-not-is-row.ensures) unknown in
+    let may = and_from _ _ (sym c.if-not-is_row.ensures) unknown in
     let room : (ledger_view b).room c.args.entry.kind ≡ 0 → ⊥ = λ z. c.if-room-eq0.false (c.room.ensures ∙ z) in
     let passes = begin_passes (ledger_view b) c.args.row refl c.args.entry.kind may room in
     let more = fee_room c.args.entry.kind (free_of b) c.room.result c.room.ensures c.if-room-eq0.false in

@@ -10,10 +10,10 @@ use Rattle.scorebook.proofs.book.hosting.ScoreBookHost.begin.Goals as goal
 pub add-requires : goal.add-requires
 add-requires c =
     let b = c.args.self.now in
-    let more = space c.args.entry.kind (free_of b) (sym c.if-is-full.ensures) in
+    let more = space c.args.entry.kind (free_of b) (sym c.if-is_full.ensures) in
     record {
       space = more;
-      row = sym c.if-not-is-row.ensures;
+      row = sym c.if-not-is_row.ensures;
       known = refl;
       unused = none_unknown (records_of b) c.args.row b.sound (ap is_unknown (sym c.state.ensures) ∙ sym c.if-not-is.ensures);
     }
@@ -24,9 +24,9 @@ returns c =
     let did = c.add.ensures in
     let row = c.args.row in
     let e = c.args.entry in
-    let is_row = sym c.if-not-is-row.ensures in
+    let is_row = sym c.if-not-is_row.ensures in
     let unused = none_unknown (records_of b) row b.sound (ap is_unknown (sym c.state.ensures) ∙ sym c.if-not-is.ensures) in
-    let room = sym c.if-is-full.ensures in
+    let room = sym c.if-is_full.ensures in
     let none = push_passes (free_of b) (records_of b) row e is_row unused room in
     record {
       does = push_begins _ _ (records_of b) _ row e is_row unused room did.free did.records;
