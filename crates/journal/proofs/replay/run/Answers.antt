@@ -7,10 +7,10 @@ use Rattle.journal.proofs.replay.run.Goals as goal
 
 pub returns-in-Ok : goal.returns-in-Ok
 returns-in-Ok c =
-    let says = sym (ap told c.in-Ok.is) ∙ c.in-ok-journal.ensures in
+    let says = sym (ap told c.in-Ok.is) ∙ c.in_ok-journal.ensures in
     subst (λ (t : Result Contents Unreadable). IfOk c.replay_blank.result (Ran t)) says c.replay_blank.ensures
 
 pub returns-in-Err : goal.returns-in-Err
 returns-in-Err c =
-    let says = sym (ap told c.in-Err.is) ∙ c.in-ok-journal.ensures in
+    let says = sym (ap told c.in-Err.is) ∙ c.in_ok-journal.ensures in
     subst (λ (t : Result Contents Unreadable). IfOk c.unread.result (Ran t)) says c.unread.ensures

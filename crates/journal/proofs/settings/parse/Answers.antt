@@ -5,12 +5,12 @@ use Rattle.journal.specs.Settings.{sofar, at_line, completed}
 use Rattle.journal.specs.declared.settings.Draft.{Draft}
 use Rattle.journal.proofs.Reading.{Left, left_byte, left_none, line_next, line_last}
 use Rattle.journal.proofs.settings.parse.Goals as goal
-use Rattle.journal.proofs.settings.parse.Goals.{then-b-eq10+in-ok-unreadable+in-default, else-b-eq10}
-use Rattle.journal.proofs.settings.parse.Goals.{then-from-text+in-ok-unreadable-2+in-default-2, else-from-text}
+use Rattle.journal.proofs.settings.parse.Goals.{then-b-eq10+in_ok-unreadable+in_default, else-b-eq10}
+use Rattle.journal.proofs.settings.parse.Goals.{then-from-text+in_ok-unreadable-2+in_default-2, else-from-text}
 
 pub returns-in-Err : goal.returns-in-Err
 returns-in-Err c =
-    let read = MatchResult-at_err _ _ c.in-Err.unreadable c.in-Err.is c.in-ok-unreadable.ensures in
+    let read = MatchResult-at_err _ _ c.in-Err.unreadable c.in-Err.is c.in_ok-unreadable.ensures in
     line_next (sofar c.loop-i.draft) c.loop-i.line c.args.text.now c.loop-i.from c.loop-i.i
     c.loop-i-test.true c.if-b-eq10.true c.trimmed.ensures read c.loop-i.invariant.2
 
@@ -19,8 +19,8 @@ same_left text i p q r = λ j. Left (sofar (p j)) (q j) text (r j) i
 
 pub loop-i-preserved : goal.loop-i-preserved
 loop-i-preserved c = elim c.if-b-eq10.branch [
-  | then-b-eq10+in-ok-unreadable+in-default w ↦
-      let read = MatchResult-at_ok _ _ w.in-default.field-0 w.in-default.is w.in-ok-unreadable.ensures in
+  | then-b-eq10+in_ok-unreadable+in_default w ↦
+      let read = MatchResult-at_ok _ _ w.in_default.field-0 w.in_default.is w.in_ok-unreadable.ensures in
       let next = line_next (sofar c.loop-i.draft) c.loop-i.line c.args.text.now c.loop-i.from c.loop-i.i
       c.loop-i-test.true w.if-b-eq10.true w.trimmed.ensures read c.loop-i.invariant.2 in (
         omega (arith, w.from-is),
@@ -38,7 +38,7 @@ loop-i-preserved c = elim c.if-b-eq10.branch [
 
 pub returns-in-Err-2 : goal.returns-in-Err-2
 returns-in-Err-2 c =
-    let read = MatchResult-at_err _ _ c.in-Err-2.unreadable c.in-Err-2.is c.in-ok-unreadable-2.ensures in
+    let read = MatchResult-at_err _ _ c.in-Err-2.unreadable c.in-Err-2.is c.in_ok-unreadable-2.ensures in
     line_last (sofar c.loop-i.draft) c.loop-i.line c.args.text.now c.loop-i.from c.loop-i.i
     c.loop-i-test.false c.loop-i.auto.i-end c.if-from-text.true refl read c.loop-i.invariant.2
 
@@ -47,8 +47,8 @@ same_end p q = λ j. at_line (q j) (completed (sofar (p j)))
 
 pub returns : goal.returns
 returns c = elim c.if-from-text.branch [
-  | then-from-text+in-ok-unreadable-2+in-default-2 w ↦
-      let read = MatchResult-at_ok _ _ w.in-default-2.field-0 w.in-default-2.is w.in-ok-unreadable-2.ensures in
+  | then-from-text+in_ok-unreadable-2+in_default-2 w ↦
+      let read = MatchResult-at_ok _ _ w.in_default-2.field-0 w.in_default-2.is w.in_ok-unreadable-2.ensures in
       let last = line_last (sofar c.loop-i.draft) c.loop-i.line c.args.text.now c.loop-i.from c.loop-i.i
       c.loop-i-test.false c.loop-i.auto.i-end w.if-from-text.true refl read c.loop-i.invariant.2 in
       c.complete.ensures ∙ same_end w.draft-is w.line-is ∙ last

@@ -11,8 +11,8 @@ one_more name i l pushed one byte h =
 
 pub loop-b-preserved : goal.loop-b-preserved
 loop-b-preserved c =
-    one_more c.args.name.now c.loop-b.b-index c.loop-b-test.true c.in-ok-push.ensures.bytes
-    (c.in-ok-push.ensures.ascii c.printable_char.ensures.ascii) c.printable_char.ensures.value c.loop-b.invariant
+    one_more c.args.name.now c.loop-b.b-index c.loop-b-test.true c.in_ok-push.ensures.bytes
+    (c.in_ok-push.ensures.ascii c.printable_char.ensures.ascii) c.printable_char.ensures.value c.loop-b.invariant
 
 pub returns : goal.returns
 returns c =

@@ -15,10 +15,10 @@ steps_more steps lines new line whole i s l s-is line-is New-is h =
 
 pub loop-i-preserved : goal.loop-i-preserved
 loop-i-preserved c =
-    let line = c.as_str.ensures.value ∙ c.in-ok-step_line.ensures in
+    let line = c.as_str.ensures.value ∙ c.in_ok-step_line.ensures in
     steps_more c.args.steps.now (string_bytes c.loop-i.lines) (string_bytes c.push_str.new.self) c.as_str.result.now
     (steps_text 1 c.args.steps.now) c.loop-i.i c.index-steps-i.result c.loop-i-test.true c.index-steps-i.is
-    line c.in-ok-push_str.ensures.bytes c.loop-i.invariant
+    line c.in_ok-push_str.ensures.bytes c.loop-i.invariant
 
 pub returns : goal.returns
 returns c =

@@ -6,7 +6,7 @@ use Rattle.journal.proofs.text.decode.Goals as goal
 
 pub loop-i-preserved : goal.loop-i-preserved
 loop-i-preserved c =
-    rw c.in-ok-push.ensures.items
+    rw c.in_ok-push.ensures.items
     (paired_more c.args.digits.now (vec_items c.loop-i.bytes) c.loop-i.i c.pair.result (omega arith) c.pair.ensures c.loop-i.invariant)
 
 pub returns : goal.returns

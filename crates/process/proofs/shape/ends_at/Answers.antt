@@ -6,7 +6,7 @@ use Rattle.std.proofs.lemmas.List.{take_all}
 use Rattle.process.specs.declared.parts.Arrow.{Arrow}
 use Rattle.process.specs.Stored.{end_of, ends_at, no_arrow}
 use Rattle.process.proofs.shape.ends_at.Goals as goal
-use Rattle.process.proofs.shape.ends_at.Goals.{then-end-of-step, else-end-of-step}
+use Rattle.process.proofs.shape.ends_at.Goals.{then-end_of-step, else-end_of-step}
 
 pub loop-a-preserved : goal.loop-a-preserved
 loop-a-preserved c =

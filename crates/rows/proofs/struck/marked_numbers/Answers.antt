@@ -3,7 +3,7 @@ use Rattle.graph.specs.Column.{marked}
 use Rattle.graph.specs.Held.{held}
 use Rattle.rows.proofs.Passing.{passing_more}
 use Rattle.rows.proofs.struck.marked_numbers.Goals as goal
-use Rattle.rows.proofs.struck.marked_numbers.Goals.{then-is-set, else-is-set}
+use Rattle.rows.proofs.struck.marked_numbers.Goals.{then-is_set, else-is_set}
 
 pub loop-i-preserved : goal.loop-i-preserved
 loop-i-preserved c =

@@ -8,8 +8,8 @@ use Rattle.ledger.specs.Lines.{last_of, begun_in, kept_by, is_hold, lines_most}
 use Rattle.ledger.proofs.Added.{begun_push, rows_push, balanced_push, reserve_push, added_fits}
 use Rattle.ledger.proofs.book.Ledger.add.Goals as goal
 
-pub index-mut-requires : goal.index-mut-requires
-index-mut-requires c =
+pub index_mut-requires : goal.index_mut-requires
+index_mut-requires c =
     let b = c.args.self.now in
     let most = min lines_most b.table.len in
     let count : b.begun + c.begins.result ≡ b.begun + cond (is_hold c.args.new.mark) 1 0 = ap (λ n. b.begun + n) c.begins.ensures in
@@ -17,8 +17,8 @@ index-mut-requires c =
     let fits = added_fits (lines_of b) c.args.new b.used b.begun _ most c.requires.row c.requires.follows count few b.reserve in
     omega (arith, fits)
 
-pub invariant-of-self : goal.invariant-of-self
-invariant-of-self c =
+pub invariant_of-self : goal.invariant_of-self
+invariant_of-self c =
     let b = c.args.self.now in
     let new = c.args.new in
     let most = min lines_most b.table.len in

@@ -24,11 +24,11 @@ add-requires c =
       room = omega (arith, none, b.few, b.counted);
     }
 
-pub returns-in-default : goal.returns-in-default
-returns-in-default c =
+pub returns-in_default : goal.returns-in_default
+returns-in_default c =
     let b = c.args.self.now in
     let was : last_of (lines_of b) c.args.row ≡ None =
-    ap (λ xs. last_of xs c.args.row) (sym c.lines.ensures) ∙ sym c.in-default.ensures in
+    ap (λ xs. last_of xs c.args.row) (sym c.lines.ensures) ∙ sym c.in_default.ensures in
     let other : same_host_state (state_by (last_of (lines_of b) c.args.row)) (state_at c.args.from) ≡ false =
     ap (λ o. same_host_state (state_by o) (state_at c.args.from)) was ∙ unknown_state c.args.from in
     let did = turn_declined c.args.from c.args.to b c.args.row c.declined.result other c.declined.ensures in

@@ -6,8 +6,8 @@ use Rattle.process.specs.Stored.{All, Placed, Rising, no_arrow, Fine}
 use Rattle.process.proofs.Drafted.{draft_arrows, draft_steps, draft_count}
 use Rattle.process.proofs.accepted.Process.new.Goals as goal
 
-pub invariant-of-result : goal.invariant-of-result
-invariant-of-result c =
+pub invariant_of-result : goal.invariant_of-result
+invariant_of-result c =
     let d = c.args.draft in
     let p = c.requires.plan in
     let formed = c.requires.sound.formed in

@@ -14,14 +14,14 @@ use Rattle.process.proofs.Answered.{reading_from, Told}
 use Rattle.process.proofs.Drafted.{bytes_from, draft_arrows, draft_steps, shaped_at}
 use Rattle.process.proofs.accepted.read.read_with.Goals as goal
 
-pub returns-in-err-draft : goal.returns-in-err-draft
-returns-in-err-draft c =
+pub returns-in_err-draft : goal.returns-in_err-draft
+returns-in_err-draft c =
     let xs = c.args.input.now in
     let p = err_from_is_err_and c.from-residual.result c.from-residual.ensures.1 in
-    let told : Told c.from-residual.result (Err c.in-err-draft.field-0.0) =
-    subst (λ (r : Result Process Fault). Told r (Err c.in-err-draft.field-0.0)) (sym p.1) p.2 in
+    let told : Told c.from-residual.result (Err c.in_err-draft.field-0.0) =
+    subst (λ (r : Result Process Fault). Told r (Err c.in_err-draft.field-0.0)) (sym p.1) p.2 in
     record {
-      reading = reading_from xs _ _ (bytes_from xs (λ i. (c.type-inv.input i).fits)) (faulty c.in-err-draft.ensures) told;
+      reading = reading_from xs _ _ (bytes_from xs (λ i. (c.type-inv.input i).fits)) (faulty c.in_err-draft.ensures) told;
       kept = search rules;
       same = search rules;
     }
@@ -29,10 +29,10 @@ returns-in-err-draft c =
 pub unfit_step-requires : goal.unfit_step-requires
 unfit_step-requires c =
     let xs = c.args.input.now in
-    let f = c.in-ok-draft.ensures in
+    let f = c.in_ok-draft.ensures in
     let formed = (scan_outcome xs (bytes_from xs (λ i. (c.type-inv.input i).fits)) nothing_read f.scan).0 in
-    let n_is = draft_steps c.in-ok-draft.draft f.plan f.holds in
-    let zs-is = c.as_slice.ensures.value ∙ draft_arrows c.in-ok-draft.draft f.plan f.holds in
+    let n_is = draft_steps c.in_ok-draft.draft f.plan f.holds in
+    let zs-is = c.as_slice.ensures.value ∙ draft_arrows c.in_ok-draft.draft f.plan f.holds in
     record {
       steps = omega (arith, formed.few_steps);
       column = c.requires.column;
@@ -43,8 +43,8 @@ unfit_step-requires c =
 pub returns-in-Some : goal.returns-in-Some
 returns-in-Some c =
     let xs = c.args.input.now in
-    let d = c.in-ok-draft.draft in
-    let f = c.in-ok-draft.ensures in
+    let d = c.in_ok-draft.draft in
+    let f = c.in_ok-draft.ensures in
     let shaped = shaped_at (Some c.in-Some.place)
     (c.as_slice.ensures.value ∙ draft_arrows d f.plan f.holds)
     (c.len-steps.ensures ∙ draft_steps d f.plan f.holds) c.in-Some.ensures.shaped in
@@ -57,8 +57,8 @@ returns-in-Some c =
 pub new-requires : goal.new-requires
 new-requires c =
     let xs = c.args.input.now in
-    let d = c.in-ok-draft.draft in
-    let f = c.in-ok-draft.ensures in
+    let d = c.in_ok-draft.draft in
+    let f = c.in_ok-draft.ensures in
     let shaped = shaped_at None
     (c.as_slice.ensures.value ∙ draft_arrows d f.plan f.holds)
     (c.len-steps.ensures ∙ draft_steps d f.plan f.holds) c.in-None.ensures.shaped in
@@ -68,8 +68,8 @@ new-requires c =
 pub returns-in-None : goal.returns-in-None
 returns-in-None c =
     let xs = c.args.input.now in
-    let d = c.in-ok-draft.draft in
-    let f = c.in-ok-draft.ensures in
+    let d = c.in_ok-draft.draft in
+    let f = c.in_ok-draft.ensures in
     let shaped = shaped_at None
     (c.as_slice.ensures.value ∙ draft_arrows d f.plan f.holds)
     (c.len-steps.ensures ∙ draft_steps d f.plan f.holds) c.in-None.ensures.shaped in

@@ -7,19 +7,19 @@ use Rattle.process.specs.Items.{stand}
 use Rattle.process.proofs.Nexts.{answer_ok, answer_err, declines, hands_out, part_from}
 use Rattle.process.proofs.reader.Reader.arrow.Goals as goal
 
-pub returns-in-err-arrow : goal.returns-in-err-arrow
-returns-in-err-arrow c =
+pub returns-in_err-arrow : goal.returns-in_err-arrow
+returns-in_err-arrow c =
     let self = c.args.self.now in
     let p = err_from_is_err_and c.from-residual.result c.from-residual.ensures.1 in
-    let stood = answer_err _ _ _ c.in-err-arrow.ensures.answer in
+    let stood = answer_err _ _ _ c.in_err-arrow.ensures.answer in
     let d = declines ArrowRecord self.rest.now self.cursor (stand self) _ _ _ p.1 p.2 stood in
     record { answer = d.0; after = d.1 }
 
 pub returns : goal.returns
 returns c =
     let self = c.args.self.now in
-    let passed = answer_ok _ _ _ c.in-ok-arrow.ensures.answer in
-    let arrow : c.in-ok-arrow.arrow ≡ read_arrow self.rest.now = passed.1 in
+    let passed = answer_ok _ _ _ c.in_ok-arrow.ensures.answer in
+    let arrow : c.in_ok-arrow.arrow ≡ read_arrow self.rest.now = passed.1 in
     let d = hands_out ArrowRecord self.rest.now self.cursor (stand self) _ _ passed.0
     (λ i. Some (arrow-record (arrow i)))
     (λ i. (

@@ -11,26 +11,26 @@ use Rattle.process.proofs.reader.Reader.step.Goals as goal
 less_two : (n : ℕ) → (2 + n) - 2 ≡ n
 less_two n = omega arith
 
-pub returns-in-err-step : goal.returns-in-err-step
-returns-in-err-step c =
+pub returns-in_err-step : goal.returns-in_err-step
+returns-in_err-step c =
     let self = c.args.self.now in
     let p = err_from_is_err_and c.from-residual.result c.from-residual.ensures.1 in
-    let stood = answer_err _ _ _ c.in-err-step.ensures.answer in
+    let stood = answer_err _ _ _ c.in_err-step.ensures.answer in
     let d = declines StepRecord self.rest.now self.cursor (stand self) _ _ _ p.1 p.2 stood in
     record { answer = d.0; after = d.1 }
 
 pub returns : goal.returns
 returns c =
     let self = c.args.self.now in
-    let passed = answer_ok _ _ _ c.in-ok-step.ensures.answer in
-    let flags : c.in-ok-step.step ≡ step_of (word2 self.rest.now) = ap (λ (v : Step × ℕ). v.0) passed.1 in
-    let len : c.in-ok-step.len ≡ name_length self.rest.now = ap (λ (v : Step × ℕ). v.1) passed.1 in
-    let len_is = less_two c.in-ok-step.len in
+    let passed = answer_ok _ _ _ c.in_ok-step.ensures.answer in
+    let flags : c.in_ok-step.step ≡ step_of (word2 self.rest.now) = ap (λ (v : Step × ℕ). v.0) passed.1 in
+    let len : c.in_ok-step.len ≡ name_length self.rest.now = ap (λ (v : Step × ℕ). v.1) passed.1 in
+    let len_is = less_two c.in_ok-step.len in
     let name = ap (λ (n : ℕ). take n (drop 2 self.rest.now)) len_is in
     let d = hands_out StepRecord self.rest.now self.cursor (stand self) _ _ passed.0
     (λ i. Some (step (record { step = flags i; name = (name ∙ ap (λ (n : ℕ). take n (drop 2 self.rest.now)) len) i }) (self.cursor.place + 2)))
     (λ i. (
-      (part_from (2 + c.in-ok-step.len) self.rest.now ∙ ap (λ (n : ℕ). drop (2 + n) self.rest.now) len) i,
+      (part_from (2 + c.in_ok-step.len) self.rest.now ∙ ap (λ (n : ℕ). drop (2 + n) self.rest.now) len) i,
       record {
         place = self.cursor.place + (2 + len i);
         begun = self.cursor.begun;

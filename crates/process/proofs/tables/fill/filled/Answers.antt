@@ -16,10 +16,10 @@ loop-draft-init c =
     let made = c.new-draft.ensures in
     partly_begun c.new-reader.ensures made.bare made.steps made.arrows
 
-pub returns-in-err-item : goal.returns-in-err-item
-returns-in-err-item c =
+pub returns-in_err-item : goal.returns-in_err-item
+returns-in_err-item c =
     let p = err_from_is_err_and c.from-residual.result c.from-residual.ensures.1 in
-    let stood = read_fault _ _ c.in-err-item.ensures.answer in
+    let stood = read_fault _ _ c.in_err-item.ensures.answer in
     let scan : Scan c.args.input.now (Err p.0) =
     subst (λ (f : Fault). Scan c.args.input.now (Err f)) (sym p.2) (partly_declined c.loop-draft.invariant stood) in
     let P : Result Draft Fault → Type 0 =
@@ -28,7 +28,7 @@ returns-in-err-item c =
 
 pub take-requires : goal.take-requires
 take-requires c =
-    let told-it = c.in-ok-item.ensures in
+    let told-it = c.in_ok-item.ensures in
     let e = handed_out _ (stand c.loop-draft.reader) (stand c.next.new.self) _ _
     told-it.answer told-it.after c.in-Some.is in
     let w = onward _ _ _ _ c.loop-draft.invariant.room _ _ _ e in
@@ -36,14 +36,14 @@ take-requires c =
 
 pub loop-draft-smaller : goal.loop-draft-smaller
 loop-draft-smaller c =
-    let told-it = c.in-ok-item.ensures in
+    let told-it = c.in_ok-item.ensures in
     let e = handed_out _ (stand c.loop-draft.reader) (stand c.next.new.self) _ _
     told-it.answer told-it.after c.in-Some.is in
     (onward _ _ _ _ c.loop-draft.invariant.room _ _ _ e).shorter
 
 pub loop-draft-preserved : goal.loop-draft-preserved
 loop-draft-preserved c =
-    let told-it = c.in-ok-item.ensures in
+    let told-it = c.in_ok-item.ensures in
     let e = handed_out _ (stand c.loop-draft.reader) (stand c.next.new.self) _ _
     told-it.answer told-it.after c.in-Some.is in
     let took = c.take.ensures in
@@ -51,8 +51,8 @@ loop-draft-preserved c =
 
 pub returns : goal.returns
 returns c =
-    let told-it = c.in-ok-item.ensures in
-    let none : c.in-ok-item.field-0 ≡ None = c.in-default.is in
+    let told-it = c.in_ok-item.ensures in
+    let none : c.in_ok-item.field-0 ≡ None = c.in_default.is in
     let e = read_end _ (stand c.loop-draft.reader) (stand c.next.new.self)
     (sym (ap (λ (o : Option Item). told (Ok o)) none) ∙ told-it.answer) told-it.after in
     record {

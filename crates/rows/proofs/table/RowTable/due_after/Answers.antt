@@ -21,7 +21,7 @@ returns-then-not-any_due_above c =
 pub returns : goal.returns
 returns c =
     let t = c.args.self.now in
-    let done = c.in-ok-reach.ensures in
+    let done = c.in_ok-reach.ensures in
     let e = done.explored in
     record {
       test = sym (or_right (not (due_above (rows_of t) c.args.row)) _ (sym done.test));

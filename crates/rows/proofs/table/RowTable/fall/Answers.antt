@@ -5,8 +5,8 @@ use Rattle.rows.specs.declared.row.Row.{Row}
 use Rattle.rows.proofs.Falls.{columns_fell, lower_fell, positive_fell}
 use Rattle.rows.proofs.table.RowTable.fall.Goals as goal
 
-pub invariant-of-self : goal.invariant-of-self
-invariant-of-self c =
+pub invariant_of-self : goal.invariant_of-self
+invariant_of-self c =
     let t = c.args.self.now in
     let new = c.fall_all.new.rows in
     let mark : ℕ → Bool = marked (held c.args.marks.now) in

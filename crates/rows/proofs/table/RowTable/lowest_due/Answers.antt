@@ -8,7 +8,7 @@ use Rattle.model.specs.Rows.{in_state}
 use Rattle.rows.specs.Tables.{rows_of}
 use Rattle.rows.proofs.Below.{first_is, first_none, above_more, none_above}
 use Rattle.rows.proofs.table.RowTable.lowest_due.Goals as goal
-use Rattle.rows.proofs.table.RowTable.lowest_due.Goals.{else-is-via-then-is+else-is-set, else-is-via-else-is}
+use Rattle.rows.proofs.table.RowTable.lowest_due.Goals.{else-is-via-then-is+else-is_set, else-is-via-else-is}
 
 pub returns-then-is_set : goal.returns-then-is_set
 returns-then-is_set c =

@@ -17,7 +17,7 @@ returns c =
     let xs = held c.reach.new.marks in
     let ys = held c.reach-2.new.marks in
     let line = c.reach.new.line in
-    let first = c.in-ok-reach.ensures in
+    let first = c.in_ok-reach.ensures in
     let second = c.reach-2.ensures in
     let From : List ℕ → Type 0 = λ starts.
     Explored (Drawn n (back (uncut chart (rows_of t)))) (Start n starts) (held c.args.marks.now) xs in

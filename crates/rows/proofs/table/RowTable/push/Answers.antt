@@ -41,8 +41,8 @@ fitting rows fs h =
 all_kept : (fs : List ℕ) (ps : Predecessors) → length fs ≤ 8 → listed ps ≡ take 8 fs → listed ps ≡ fs
 all_kept fs ps few e = e ∙ take_all 8 fs few
 
-pub invariant-of-self : goal.invariant-of-self
-invariant-of-self c =
+pub invariant_of-self : goal.invariant_of-self
+invariant_of-self c =
     let s = c.args.self.now in
     let rows = s.rows.items in
     let fs = c.args.predecessors.now in

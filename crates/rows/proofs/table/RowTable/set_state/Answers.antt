@@ -7,23 +7,23 @@ use Rattle.rows.specs.Columns.{row_at, columns}
 use Rattle.rows.proofs.Columns.{known_within, row_inside, columns_marked, rolled_marked, lower_marked, positive_marked}
 use Rattle.rows.proofs.table.RowTable.set_state.Goals as goal
 
-pub index-mut-requires : goal.index-mut-requires
-index-mut-requires c =
+pub index_mut-requires : goal.index_mut-requires
+index_mut-requires c =
     let rows = c.args.self.now.rows in
     let here : same_state (row_at rows.items c.args.number).state Absent ≡ false =
     ap (λ s. same_state s Absent) (sym c.state.ensures) ∙ sym c.if-is.ensures in
     let w = known_within rows.items c.args.number here in
     omega (arith, w.0, w.1, rows.ok.0)
 
-pub invariant-of-self : goal.invariant-of-self
-invariant-of-self c =
+pub invariant_of-self : goal.invariant_of-self
+invariant_of-self c =
     let s = c.args.self.now in
     let rows = s.rows.items in
     let k = c.args.number in
     let here : same_state (row_at rows k).state Absent ≡ false =
     ap (λ s. same_state s Absent) (sym c.state.ensures) ∙ sym c.if-is.ensures in
     let w = known_within rows k here in
-    let is = row_inside rows k _ w.0 w.1 c.index-mut.ensures.value in
+    let is = row_inside rows k _ w.0 w.1 c.index_mut.ensures.value in
     (lower_marked rows k _ c.args.to w.0 w.1 is s.lower, (positive_marked rows k _ c.args.to w.0 w.1 is s.positive, (s.few, (s.reserved, tt))))
 
 pub returns : goal.returns
@@ -34,7 +34,7 @@ returns c =
     let here : same_state (row_at rows k).state Absent ≡ false =
     ap (λ s. same_state s Absent) (sym c.state.ensures) ∙ sym c.if-is.ensures in
     let w = known_within rows k here in
-    let is = row_inside rows k _ w.0 w.1 c.index-mut.ensures.value in
+    let is = row_inside rows k _ w.0 w.1 c.index_mut.ensures.value in
     record {
       rows = columns_marked rows k _ c.args.to w.0 w.1 is
           ∙ sym (ap (λ t. cond t (columns rows) (marked (columns rows) k c.args.to)) here);

@@ -6,7 +6,7 @@ use Rattle.rows.specs.Steps.{steps_only}
 use Rattle.rows.specs.Tables.{rows_of}
 use Rattle.rows.proofs.Fronts.{front_yes, front_no, front_all, listed_few, listed_all}
 use Rattle.rows.proofs.table.RowTable.uncut.Goals as goal
-use Rattle.rows.proofs.table.RowTable.uncut.Goals.{then-not-is-savepoint, else-not-is-savepoint}
+use Rattle.rows.proofs.table.RowTable.uncut.Goals.{then-not-is_savepoint, else-not-is_savepoint}
 
 pub bounds-numbers-count : goal.bounds-numbers-count
 bounds-numbers-count c =

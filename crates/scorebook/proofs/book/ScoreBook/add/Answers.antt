@@ -5,8 +5,8 @@ use Rattle.scorebook.specs.Records.{well}
 use Rattle.scorebook.specs.Turned.{well_push}
 use Rattle.scorebook.proofs.book.ScoreBook.add.Goals as goal
 
-pub invariant-of-self : goal.invariant-of-self
-invariant-of-self c =
+pub invariant_of-self : goal.invariant_of-self
+invariant_of-self c =
     let b = c.args.self.now in
     let less : b.used < length b.table.items = omega (arith, c.requires.space, b.table.ok.0) in
     let more = take_more_set b.table.items b.used c.args.new less in

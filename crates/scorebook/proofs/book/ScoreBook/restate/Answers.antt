@@ -5,8 +5,8 @@ use Rattle.scorebook.specs.Records.{well, place_in}
 use Rattle.scorebook.specs.Turned.{turned_in, turned_absent, well_turned}
 use Rattle.scorebook.proofs.book.ScoreBook.restate.Goals as goal
 
-pub invariant-of-self : goal.invariant-of-self
-invariant-of-self c =
+pub invariant_of-self : goal.invariant_of-self
+invariant_of-self c =
     let b = c.args.self.now in
     let within : b.used ≤ length b.table.items = omega (arith, b.within, b.table.ok.0) in
     let at = c.place-i.ensures ∙ ap (λ xs. place_in xs c.args.row) c.records.ensures in

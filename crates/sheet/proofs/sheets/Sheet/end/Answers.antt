@@ -16,40 +16,40 @@ use Rattle.sheet.specs.SheetOf.{sheet_of, chart_of}
 use Rattle.sheet.proofs.Comings.{own_declines, host_declines, none_declines, both_accept, other_rows, put_into}
 use Rattle.sheet.proofs.sheets.Sheet.end.Goals as goal
 
-pub returns-in-err-may_end : goal.returns-in-err-may_end
-returns-in-err-may_end g c =
+pub returns-in_err-may_end : goal.returns-in_err-may_end
+returns-in_err-may_end g c =
     let s = sheet_of c.args.self.now in
     let v = g.X.Host.view c.args.host.now in
     let k = c.args.row in
-    let f = c.in-err-may_end.field-0.0 in
+    let f = c.in_err-may_end.field-0.0 in
     let r : c.from-residual.result ≡ Err f = search rules in
     record {
       comes = own_declines tt s (with_rows s (marked s.rows k Committed)) v (moved Standing v (key_of k))
-          (end_checks s k) (move_checks Open v (key_of k)) f c.in-err-may_end.ensures r refl refl;
+          (end_checks s k) (move_checks Open v (key_of k)) f c.in_err-may_end.ensures r refl refl;
       process = refl;
     }
 
-pub returns-in-err-commit : goal.returns-in-err-commit
-returns-in-err-commit g c =
+pub returns-in_err-commit : goal.returns-in_err-commit
+returns-in_err-commit g c =
     let s = sheet_of c.args.self.now in
     let v = g.X.Host.view c.args.host.now in
     let k = c.args.row in
-    let f = c.in-err-commit.field-0.0 in
-    let b = simp c.row_key.ensures at c.in-err-commit.ensures in
-    let r : c.from-residual-in-err-commit.result ≡ Err f = search rules in
+    let f = c.in_err-commit.field-0.0 in
+    let b = simp c.row_key.ensures at c.in_err-commit.ensures in
+    let r : c.from-residual-in_err-commit.result ≡ Err f = search rules in
     record {
       comes = host_declines tt s (with_rows s (marked s.rows k Committed)) v (moved Standing v (key_of k))
-          (end_checks s k) (move_checks Open v (key_of k)) f c.in-ok-may_end.ensures b.answers r refl b.shows;
+          (end_checks s k) (move_checks Open v (key_of k)) f c.in_ok-may_end.ensures b.answers r refl b.shows;
       process = refl;
     }
 
-pub invariant-of-self : goal.invariant-of-self
-invariant-of-self g c =
+pub invariant_of-self : goal.invariant_of-self
+invariant_of-self g c =
     let s = sheet_of c.args.self.now in
     let v = g.X.Host.view c.args.host.now in
     let k = c.args.row in
-    let b = simp c.row_key.ensures at c.in-ok-commit.ensures in
-    let none = none_declines (end_checks s k) (move_checks Open v (key_of k)) c.in-ok-may_end.ensures b.answers in
+    let b = simp c.row_key.ensures at c.in_ok-commit.ensures in
+    let none = none_declines (end_checks s k) (move_checks Open v (key_of k)) c.in_ok-may_end.ensures b.answers in
     let is = other_rows c.args.self.now.table c.set_state.new.self _ _ _ _ _
     (c.set_state.ensures.rows ∙ put_into s.rows k Running Committed (end_running s v k none) refl)
     c.set_state.ensures.rolled in (
@@ -63,13 +63,13 @@ returns g c =
     let s = sheet_of c.args.self.now in
     let v = g.X.Host.view c.args.host.now in
     let k = c.args.row in
-    let b = simp c.row_key.ensures at c.in-ok-commit.ensures in
-    let none = none_declines (end_checks s k) (move_checks Open v (key_of k)) c.in-ok-may_end.ensures b.answers in
+    let b = simp c.row_key.ensures at c.in_ok-commit.ensures in
+    let none = none_declines (end_checks s k) (move_checks Open v (key_of k)) c.in_ok-may_end.ensures b.answers in
     let is = other_rows c.args.self.now.table c.set_state.new.self _ _ _ _ _
     (c.set_state.ensures.rows ∙ put_into s.rows k Running Committed (end_running s v k none) refl)
     c.set_state.ensures.rolled in
     record {
       comes = both_accept tt s (with_rows s (marked s.rows k Committed)) v (moved Standing v (key_of k))
-          (end_checks s k) (move_checks Open v (key_of k)) c.in-ok-may_end.ensures b.answers refl is b.shows;
+          (end_checks s k) (move_checks Open v (key_of k)) c.in_ok-may_end.ensures b.answers refl is b.shows;
       process = refl;
     }

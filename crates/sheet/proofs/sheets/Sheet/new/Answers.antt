@@ -8,9 +8,9 @@ use Rattle.model.proofs.Kept.{kept_first}
 use Rattle.sheet.specs.Parts.{sheet_from}
 use Rattle.sheet.proofs.sheets.Sheet.new.Goals as goal
 
-pub invariant-of-result : goal.invariant-of-result
-invariant-of-result c =
-    let t = c.in-ok-table.ensures in
+pub invariant_of-result : goal.invariant_of-result
+invariant_of-result c =
+    let t = c.in_ok-table.ensures in
     let n = c.args.serial in
     let sheet : Rows → (ℕ → ℕ) → Sheet = λ r rolled. record { rows = r; rolled = rolled; phase = Forward; rollback = 0; serial = n; mode = Complete } in
     (∣ subst Kept (sym (ap₂ sheet t.rows t.rolled)) (kept_first n) ∣₁, tt)

@@ -9,7 +9,7 @@ use Rattle.model.specs.Rows.{in_state}
 use Rattle.rows.specs.Tables.{rows_of}
 use Rattle.sheet.proofs.Aborting.{still_droppable, dropped_one, dropped_none}
 use Rattle.sheet.proofs.sheets.aborts.drop_running.Goals as goal
-use Rattle.sheet.proofs.sheets.aborts.drop_running.Goals.{then-is-in, else-is-in}
+use Rattle.sheet.proofs.sheets.aborts.drop_running.Goals.{then-is_in, else-is_in}
 
 pub loop-number-preserved : goal.loop-number-preserved
 loop-number-preserved g c =
