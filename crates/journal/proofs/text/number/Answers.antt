@@ -25,7 +25,7 @@ loop-b-preserved c =
     let stands : Stands limit c.if-n-limit.n (10 * v + (b - 48)) = elim c.if-n-limit.branch [
       | then-n-limit w ↦
           let n_is : 10 * c.loop-b.n + (b - 48) ≡ c.if-n-limit.n = omega (arith, w.n_is, w.from.ensures) in
-          let fits : b - 48 < 2 ^ 8 = omega (arith, c.type-inv.word c.loop-b.b-index) in
+          let fits : b - 48 < 2 ^ 8 = omega (arith, c.type_inv.word c.loop-b.b-index) in
           subst (λ n. Stands limit n (10 * v + (b - 48))) n_is
           (stands_more limit c.loop-b.n v small c.loop-b.invariant (b - 48) fits w.if-n-limit.true)
       | else-n-limit w ↦

@@ -16,14 +16,14 @@ loop-a-preserved c =
     let came = c.end_of.ensures in
     elim c.if-end_of-step.branch [
       | then-end_of-step w ↦ (
-        w.n_is ∙ ap (λ n. n + 1) c.loop-a.invariant.0
+        w.n-is ∙ ap (λ n. n + 1) c.loop-a.invariant.0
             ∙ sym (count_by_more_yes here zs i no_arrow c.loop-a-test.true (grind (arith, nat_tests, w.if-end_of-step.true))),
-        omega (arith, w.n_is, c.loop-a.invariant.1),
+        omega (arith, w.n-is, c.loop-a.invariant.1),
       )
       | else-end_of-step w ↦ (
-        w.n_is ∙ c.loop-a.invariant.0
+        w.n-is ∙ c.loop-a.invariant.0
             ∙ sym (count_by_more_no here zs i no_arrow c.loop-a-test.true (grind (arith, nat_tests, w.if-end_of-step.false))),
-        omega (arith, w.n_is, c.loop-a.invariant.1),
+        omega (arith, w.n-is, c.loop-a.invariant.1),
       )
     ]
 

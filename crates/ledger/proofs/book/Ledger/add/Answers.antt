@@ -32,22 +32,15 @@ invariant_of-self c =
     take_more_set b.table.items b.used new less in
     let reserve = reserve_push (lines_of b) new b.used b.begun begun c.requires.row c.requires.follows count b.reserve in
     let rows = rows_push (lines_of b) new c.requires.row b.rows in
-    let balanced = balanced_push (lines_of b) new c.requires.row c.requires.follows b.balanced in (
-      fits,
-      (
-        count ∙ ap (λ n. n + cond (is_hold new.mark) 1 0) b.counted ∙ sym (begun_push (lines_of b) new) ∙ ap begun_in (sym more),
-        (
-          few,
-          (
-            subst (λ xs. (n : RowKey) → is_row n ≡ false → is_some (last_of xs n) ≡ false) (sym more) rows,
-            (
-              subst (λ xs. (pos (b.used + 1) +ℤ reserved xs) ≤ℤ pos (3 * begun)) (sym more) reserve,
-              (subst (λ xs. posted xs ≡ standing_fees (kept_by 0 xs)) (sym more) balanced, tt),
-            ),
-          ),
-        ),
-      ),
-    )
+    let balanced = balanced_push (lines_of b) new c.requires.row c.requires.follows b.balanced in
+    record {
+      within = fits;
+      counted = count ∙ ap (λ n. n + cond (is_hold new.mark) 1 0) b.counted ∙ sym (begun_push (lines_of b) new) ∙ ap begun_in (sym more);
+      few = few;
+      rows = subst (λ xs. (n : RowKey) → is_row n ≡ false → is_some (last_of xs n) ≡ false) (sym more) rows;
+      reserve = subst (λ xs. (pos (b.used + 1) +ℤ reserved xs) ≤ℤ pos (3 * begun)) (sym more) reserve;
+      balanced = subst (λ xs. posted xs ≡ standing_fees (kept_by 0 xs)) (sym more) balanced;
+    }
 
 pub returns : goal.returns
 returns c =

@@ -8,4 +8,11 @@ use Rattle.ledger.proofs.book.Ledger.new.Goals as goal
 pub invariant_of-result : goal.invariant_of-result
 invariant_of-result c =
     let none = sum_none (λ _. pos 0) (λ _. refl) rows_most in
-    (omega arith, (refl, (omega arith, ((λ _ _. refl), (omega (arith, ints, none), (sym none, tt))))))
+    record {
+      within = omega arith;
+      counted = refl;
+      few = omega arith;
+      rows = λ _ _. refl;
+      reserve = omega (arith, ints, none);
+      balanced = sym none;
+    }

@@ -22,13 +22,14 @@ invariant_of-result c =
     let rising = subst (λ (ys : List Arrow). Rising no_arrow ys) (sym zs-is) formed.rising in
     let fine : (k : ℕ) → Within n k → Fine zs n k =
     subst (λ (m : ℕ). (k : ℕ) → Within m k → Fine zs m k) (sym n_is)
-    (subst (λ (ys : List Arrow). (k : ℕ) → Within (length p.steps) k → Fine ys (length p.steps) k) (sym zs-is) c.requires.sound.fine) in (
-      omega (arith, formed.some_steps),
-      (
-        omega (arith, formed.few_steps),
-        (
-          omega (arith, formed.few_arrows),
-          (∣ placed ∣₁, (∣ rising ∣₁, (λ k w. (fine k w).out_few, (λ k w. (fine k w).in_few, (λ k w. ∣ (fine k w).reached ∣₁, tt))))),
-        ),
-      ),
-    )
+    (subst (λ (ys : List Arrow). (k : ℕ) → Within (length p.steps) k → Fine ys (length p.steps) k) (sym zs-is) c.requires.sound.fine) in
+    record {
+      some_steps = omega (arith, formed.some_steps);
+      few_steps = omega (arith, formed.few_steps);
+      few_arrows = omega (arith, formed.few_arrows);
+      placed = ∣ placed ∣₁;
+      rising = ∣ rising ∣₁;
+      out_few = λ k w. (fine k w).out_few;
+      in_few = λ k w. (fine k w).in_few;
+      reached = λ k w. ∣ (fine k w).reached ∣₁;
+    }

@@ -17,11 +17,11 @@ use Rattle.process.proofs.accepted.read.read_with.Goals as goal
 pub returns-in_err-draft : goal.returns-in_err-draft
 returns-in_err-draft c =
     let xs = c.args.input.now in
-    let p = err_from_is_err_and c.from-residual.result c.from-residual.ensures.1 in
-    let told : Told c.from-residual.result (Err c.in_err-draft.field-0.0) =
+    let p = err_from_is_err_and c.from_residual.result c.from_residual.ensures.1 in
+    let told : Told c.from_residual.result (Err c.in_err-draft.field-0.0) =
     subst (λ (r : Result Process Fault). Told r (Err c.in_err-draft.field-0.0)) (sym p.1) p.2 in
     record {
-      reading = reading_from xs _ _ (bytes_from xs (λ i. (c.type-inv.input i).fits)) (faulty c.in_err-draft.ensures) told;
+      reading = reading_from xs _ _ (bytes_from xs (λ i. (c.type_inv.input i).fits)) (faulty c.in_err-draft.ensures) told;
       kept = search rules;
       same = search rules;
     }
@@ -30,7 +30,7 @@ pub unfit_step-requires : goal.unfit_step-requires
 unfit_step-requires c =
     let xs = c.args.input.now in
     let f = c.in_ok-draft.ensures in
-    let formed = (scan_outcome xs (bytes_from xs (λ i. (c.type-inv.input i).fits)) nothing_read f.scan).0 in
+    let formed = (scan_outcome xs (bytes_from xs (λ i. (c.type_inv.input i).fits)) nothing_read f.scan).0 in
     let n_is = draft_steps c.in_ok-draft.draft f.plan f.holds in
     let zs-is = c.as_slice.ensures.value ∙ draft_arrows c.in_ok-draft.draft f.plan f.holds in
     record {
@@ -49,7 +49,7 @@ returns-in-Some c =
     (c.as_slice.ensures.value ∙ draft_arrows d f.plan f.holds)
     (c.len-steps.ensures ∙ draft_steps d f.plan f.holds) c.in-Some.ensures.shaped in
     record {
-      reading = reading_from xs _ _ (bytes_from xs (λ i. (c.type-inv.input i).fits)) (unfit f.scan shaped) refl;
+      reading = reading_from xs _ _ (bytes_from xs (λ i. (c.type_inv.input i).fits)) (unfit f.scan shaped) refl;
       kept = c.in-Some.ensures.kept;
       same = c.in-Some.ensures.same;
     }
@@ -62,7 +62,7 @@ new-requires c =
     let shaped = shaped_at None
     (c.as_slice.ensures.value ∙ draft_arrows d f.plan f.holds)
     (c.len-steps.ensures ∙ draft_steps d f.plan f.holds) c.in-None.ensures.shaped in
-    let formed = (scan_outcome xs (bytes_from xs (λ i. (c.type-inv.input i).fits)) nothing_read f.scan).0 in
+    let formed = (scan_outcome xs (bytes_from xs (λ i. (c.type_inv.input i).fits)) nothing_read f.scan).0 in
     record { plan = f.plan; sound = record { formed = formed; fine = shaped }; holds = f.holds }
 
 pub returns-in-None : goal.returns-in-None
@@ -74,7 +74,7 @@ returns-in-None c =
     (c.as_slice.ensures.value ∙ draft_arrows d f.plan f.holds)
     (c.len-steps.ensures ∙ draft_steps d f.plan f.holds) c.in-None.ensures.shaped in
     record {
-      reading = reading_from xs _ _ (bytes_from xs (λ i. (c.type-inv.input i).fits)) (accepted f.scan shaped) (c.new.ensures ∙ f.holds);
+      reading = reading_from xs _ _ (bytes_from xs (λ i. (c.type_inv.input i).fits)) (accepted f.scan shaped) (c.new.ensures ∙ f.holds);
       kept = c.in-None.ensures.kept;
       same = c.in-None.ensures.same;
     }

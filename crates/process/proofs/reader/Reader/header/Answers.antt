@@ -11,7 +11,7 @@ use Rattle.process.proofs.reader.Reader.header.Goals as goal
 pub returns-in_err-steps : goal.returns-in_err-steps
 returns-in_err-steps c =
     let self = c.args.self.now in
-    let p = err_from_is_err_and c.from-residual.result c.from-residual.ensures.1 in
+    let p = err_from_is_err_and c.from_residual.result c.from_residual.ensures.1 in
     let stood = answer_err _ _ _ c.in_err-steps.ensures.answer in
     let d = declines HeaderRecord self.rest.now self.cursor (stand self) _ _ _ p.1 p.2 stood in
     record { answer = d.0; after = d.1 }

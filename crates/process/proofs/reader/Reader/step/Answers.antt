@@ -14,7 +14,7 @@ less_two n = omega arith
 pub returns-in_err-step : goal.returns-in_err-step
 returns-in_err-step c =
     let self = c.args.self.now in
-    let p = err_from_is_err_and c.from-residual.result c.from-residual.ensures.1 in
+    let p = err_from_is_err_and c.from_residual.result c.from_residual.ensures.1 in
     let stood = answer_err _ _ _ c.in_err-step.ensures.answer in
     let d = declines StepRecord self.rest.now self.cursor (stand self) _ _ _ p.1 p.2 stood in
     record { answer = d.0; after = d.1 }

@@ -18,7 +18,7 @@ loop-draft-init c =
 
 pub returns-in_err-item : goal.returns-in_err-item
 returns-in_err-item c =
-    let p = err_from_is_err_and c.from-residual.result c.from-residual.ensures.1 in
+    let p = err_from_is_err_and c.from_residual.result c.from_residual.ensures.1 in
     let stood = read_fault _ _ c.in_err-item.ensures.answer in
     let scan : Scan c.args.input.now (Err p.0) =
     subst (λ (f : Fault). Scan c.args.input.now (Err f)) (sym p.2) (partly_declined c.loop-draft.invariant stood) in

@@ -11,7 +11,7 @@ invariant_of-self c =
     let less : b.used < length b.table.items = omega (arith, c.requires.space, b.table.ok.0) in
     let more = take_more_set b.table.items b.used c.args.new less in
     let sound = well_push _ c.args.new b.sound c.requires.row c.requires.known c.requires.unused in
-    (omega (arith, c.requires.space), (subst (λ xs. well xs ≡ true) (sym more) sound, tt))
+    record { within = omega (arith, c.requires.space); sound = subst (λ xs. well xs ≡ true) (sym more) sound }
 
 pub returns : goal.returns
 returns c =

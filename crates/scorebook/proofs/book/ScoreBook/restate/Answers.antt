@@ -13,7 +13,7 @@ invariant_of-self c =
     let turns = turned_in b.table.items b.used c.args.row c.place-i.result c.args.to c.index-turned.result.now
     at c.if-i-self.true within c.index-turned.ensures in
     let sound = well_turned (take b.used b.table.items) c.args.row c.args.to b.sound c.requires in
-    (b.within, (subst (λ xs. well xs ≡ true) (sym turns) sound, tt))
+    record { within = b.within; sound = subst (λ xs. well xs ≡ true) (sym turns) sound }
 
 pub returns-then-i-self : goal.returns-then-i-self
 returns-then-i-self c =

@@ -22,7 +22,7 @@ returns-in_err-may_end g c =
     let v = g.X.Host.view c.args.host.now in
     let k = c.args.row in
     let f = c.in_err-may_end.field-0.0 in
-    let r : c.from-residual.result ≡ Err f = search rules in
+    let r : c.from_residual.result ≡ Err f = search rules in
     record {
       comes = own_declines tt s (with_rows s (marked s.rows k Committed)) v (moved Standing v (key_of k))
           (end_checks s k) (move_checks Open v (key_of k)) f c.in_err-may_end.ensures r refl refl;
@@ -36,7 +36,7 @@ returns-in_err-commit g c =
     let k = c.args.row in
     let f = c.in_err-commit.field-0.0 in
     let b = simp c.row_key.ensures at c.in_err-commit.ensures in
-    let r : c.from-residual-in_err-commit.result ≡ Err f = search rules in
+    let r : c.from_residual-in_err-commit.result ≡ Err f = search rules in
     record {
       comes = host_declines tt s (with_rows s (marked s.rows k Committed)) v (moved Standing v (key_of k))
           (end_checks s k) (move_checks Open v (key_of k)) f c.in_ok-may_end.ensures b.answers r refl b.shows;

@@ -23,7 +23,7 @@ returns-in_err-may_start g c =
     let fs = c.args.predecessors.now in
     let e = c.args.entry in
     let f = c.in_err-may_start.field-0.0 in
-    let r : c.from-residual.result ≡ Err f = search rules in
+    let r : c.from_residual.result ≡ Err f = search rules in
     record {
       comes = own_declines (s.rows.count + 1) s (with_rows s (added s.rows k fs e)) v (begun v (key_of (s.rows.count + 1)) e)
           (start_checks d s k fs (lawful (step_at d k) e)) (begin_checks v (key_of (s.rows.count + 1)) e.kind)
@@ -41,7 +41,7 @@ returns-in_err-begin g c =
     let e = c.args.entry in
     let f = c.in_err-begin.field-0.0 in
     let b = simp (c.row_key.ensures, c.len-row.ensures) at c.in_err-begin.ensures in
-    let r : c.from-residual-in_err-begin.result ≡ Err f = search rules in
+    let r : c.from_residual-in_err-begin.result ≡ Err f = search rules in
     record {
       comes = host_declines (s.rows.count + 1) s (with_rows s (added s.rows k fs e)) v (begun v (key_of (s.rows.count + 1)) e)
           (start_checks d s k fs (lawful (step_at d k) e)) (begin_checks v (key_of (s.rows.count + 1)) e.kind)
