@@ -14,25 +14,25 @@ loop-i-init c =
 
 pub returns : goal.returns
 returns c =
-    let none : c.args.records - c.loop-i.-i ≡ 0 = omega arith in
+    let none : c.args.records - c.loop-i._i ≡ 0 = omega arith in
     let end = ap (λ n. handed n (stand c.loop-i.reader).0 (stand c.loop-i.reader).1) none in
     sym (append-nil _) ∙ ap (λ t. map line_shown (vec_items c.loop-i.lines) ++ t) (sym end) ∙ c.loop-i.invariant
 
 pub loop-i-preserved : goal.loop-i-preserved
 loop-i-preserved c =
-    one_more c.args.records c.loop-i.-i (stand c.loop-i.reader).0 (stand c.loop-i.reader).1
+    one_more c.args.records c.loop-i._i (stand c.loop-i.reader).0 (stand c.loop-i.reader).1
     (map line_shown (vec_items c.loop-i.lines)) (handed c.args.records c.args.stored.now start) c.loop-i-test.true c.loop-i.invariant
     (record_of c.in-Some.item) (stand c.next.new.self)
     (ap (λ o. told (Ok o)) (sym c.in-Some.is) ∙ c.in-Ok.ensures.answer) c.in-Ok.ensures.after c.in_ok-add_line.ensures
 
 pub returns-in-None : goal.returns-in-None
 returns-in-None c =
-    no_more c.args.records c.loop-i.-i (stand c.loop-i.reader).0 (stand c.loop-i.reader).1
+    no_more c.args.records c.loop-i._i (stand c.loop-i.reader).0 (stand c.loop-i.reader).1
     (map line_shown (vec_items c.loop-i.lines)) (handed c.args.records c.args.stored.now start) c.loop-i-test.true c.loop-i.invariant
     (ap (λ o. told (Ok o)) (sym c.in-None.is) ∙ c.in-Ok.ensures.answer)
 
 pub returns-in-Err : goal.returns-in-Err
 returns-in-Err c =
-    faulty c.args.records c.loop-i.-i (stand c.loop-i.reader).0 (stand c.loop-i.reader).1
+    faulty c.args.records c.loop-i._i (stand c.loop-i.reader).0 (stand c.loop-i.reader).1
     (map line_shown (vec_items c.loop-i.lines)) (handed c.args.records c.args.stored.now start) c.loop-i-test.true c.loop-i.invariant
     _ c.in-Err.ensures.answer

@@ -7,5 +7,5 @@ use Rattle.journal.proofs.names.blank_lines.Given as goal
 
 abbrev pub invariant-loop-i : goal.invariant-loop-i
 invariant-loop-i l =
-    map line_shown (vec_items l.lines) ++ handed (l.records - l.-i) (stand l.reader).0 (stand l.reader).1
+    map line_shown (vec_items l.lines) ++ handed (l.records - l._i) (stand l.reader).0 (stand l.reader).1
     ≡ handed l.records l.stored start

@@ -8,8 +8,8 @@ use Rattle.journal.specs.declared.summary.Summary.{Summary}
 use Rattle.journal.specs.Outcomes.{replayed}
 use Rattle.journal.proofs.replay.replay_blank.Goals as goal
 
-pub returns-in_ok-lines : goal.returns-in_ok-lines
-returns-in_ok-lines c =
+pub returns-in_ok-lines-in-Ok : goal.returns-in_ok-lines-in-Ok
+returns-in_ok-lines-in-Ok c =
     let q = c.in-Ok.process in
     let stored = c.as_slice-stored.ensures.value in
     let reading = subst (λ (xs : List ℕ). Reading xs (Ok q)) stored (c.in-Ok.ensures.answer refl) in

@@ -9,8 +9,8 @@ use Rattle.journal.proofs.Digits.{Stands, value_more, stands_more, stands_past, 
 use Rattle.journal.proofs.text.number.Goals as goal
 use Rattle.journal.proofs.text.number.Goals.{then-n-limit, else-n-limit}
 
-pub overflow-sub-b : goal.overflow-sub-b
-overflow-sub-b c =
+pub overflow_sub-b : goal.overflow_sub-b
+overflow_sub-b c =
     let b = get_or c.args.word.now c.loop-b.b-index 0 in
     let is = every_at (in_class Digit) c.args.word.now c.loop-b.b-index (sym c.if-not-every.ensures) c.loop-b-test.true in
     omega (arith, leb-true 48 b (and_parts _ _ is).0)
@@ -24,12 +24,12 @@ loop-b-preserved c =
     let small : limit < 2 ^ 32 = omega (arith, c.ranges.limit.fits) in
     let stands : Stands limit c.if-n-limit.n (10 * v + (b - 48)) = elim c.if-n-limit.branch [
       | then-n-limit w ↦
-          let n_is : 10 * c.loop-b.n + (b - 48) ≡ c.if-n-limit.n = omega (arith, w.n_is, w.from.ensures) in
+          let n_is : 10 * c.loop-b.n + (b - 48) ≡ c.if-n-limit.n = omega (arith, w.n-is, w.from.ensures) in
           let fits : b - 48 < 2 ^ 8 = omega (arith, c.type_inv.word c.loop-b.b-index) in
           subst (λ n. Stands limit n (10 * v + (b - 48))) n_is
           (stands_more limit c.loop-b.n v small c.loop-b.invariant (b - 48) fits w.if-n-limit.true)
       | else-n-limit w ↦
-          subst (λ n. Stands limit n (10 * v + (b - 48))) (sym w.n_is)
+          subst (λ n. Stands limit n (10 * v + (b - 48))) (sym w.n-is)
           (stands_past limit c.loop-b.n v small c.loop-b.invariant (b - 48) w.if-n-limit.false)
     ] in
     subst (Stands limit c.if-n-limit.n) (sym (value_more ds c.loop-b.b-index c.loop-b-test.true)) stands

@@ -16,8 +16,8 @@ bounds-numbers-count c =
 pub offset-bounds-numbers-count : goal.offset-bounds-numbers-count
 offset-bounds-numbers-count c = omega (arith, bounds-numbers-count c)
 
-pub overflow-add-count : goal.overflow-add-count
-overflow-add-count c = omega (arith, bounds-numbers-count c)
+pub overflow_add-count : goal.overflow_add-count
+overflow_add-count c = omega (arith, bounds-numbers-count c)
 
 pub loop-w-preserved : goal.loop-w-preserved
 loop-w-preserved c =
