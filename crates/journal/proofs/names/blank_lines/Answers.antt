@@ -23,7 +23,7 @@ loop-i-preserved c =
     one_more c.args.records c.loop-i._i (stand c.loop-i.reader).0 (stand c.loop-i.reader).1
     (map line_shown (vec_items c.loop-i.lines)) (handed c.args.records c.args.stored.now start) c.loop-i-test.true c.loop-i.invariant
     (record_of c.in-Some.item) (stand c.next.new.self)
-    (ap (λ o. told (Ok o)) (sym c.in-Some.is) ∙ c.in-Ok.ensures.answer) c.in-Ok.ensures.after c.in_ok-add_line.ensures
+    (ap (λ o. told (Ok o)) (sym c.in-Some.is) ∙ c.in-Ok.ensures.answer) c.in-Ok.ensures.after c.in_ok-add_line-in-Some.ensures
 
 pub returns-in-None : goal.returns-in-None
 returns-in-None c =

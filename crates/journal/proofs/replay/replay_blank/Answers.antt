@@ -15,14 +15,14 @@ returns-in_ok-lines-in-Ok c =
     let reading = subst (λ (xs : List ℕ). Reading xs (Ok q)) stored (c.in-Ok.ensures.answer refl) in
     let steps : length c.steps-steps.result.now ≡ length (tables_of q).0 = ap length c.steps-steps.ensures in
     let arrows : length c.arrows-arrows.result.now ≡ length (tables_of q).1 = ap length c.arrows-arrows.ensures in
-    let lines = c.in_ok-lines.ensures ∙ ap₂ (λ (n : ℕ) (xs : List ℕ). handed (n + 1) xs start) steps stored in
+    let lines = c.in_ok-lines-in-Ok.ensures ∙ ap₂ (λ (n : ℕ) (xs : List ℕ). handed (n + 1) xs start) steps stored in
     let line = c.args.journal.now.process_line in
     let summary = ap₂ (λ (n : ℕ) (s : Summary). replayed line n s) arrows c.blank_summary.ensures in
     IfOk-weaker c.replayed.result _ _
     (λ x h. record {
       answer = Ok q;
       reading = reading;
-      tells = record { lines = c.in_ok-lines.lines; steps = lines; tells = h ∙ summary };
+      tells = record { lines = c.in_ok-lines-in-Ok.lines; steps = lines; tells = h ∙ summary };
     })
     c.replayed.ensures
 
