@@ -4,16 +4,13 @@
 use anyhow::anyhow;
 use journal::Outcome;
 use std::io::Read;
+use std::process::ExitCode;
 use std::{env, fs};
 
 const HELP: &str = "tolibwas FILE     replays the journal in the file
 tolibwas          replays the journal on standard input
 tolibwas --help   prints this
 ";
-
-// The status is 1; what went wrong has been told.
-#[derive(Drop)]
-struct Failed;
 
 // What the words after the program's name ask for.
 #[derive(Drop)]
@@ -69,13 +66,14 @@ fn perform(rt: &HostRuntime) -> anyhow::Result<bool> {
     }
 }
 
-fn main(rt: HostRuntime) -> Result<(), Failed> {
+// Where the status is 1, what went wrong has been told.
+fn main(rt: HostRuntime) -> ExitCode {
     match perform(&rt) {
-        Ok(true) => Ok(()),
-        Ok(false) => Err(Failed),
+        Ok(true) => ExitCode::SUCCESS,
+        Ok(false) => ExitCode::FAILURE,
         Err(error) => {
             let _ = eprintln!(rt; "tolibwas: {error}");
-            Err(Failed)
+            ExitCode::FAILURE
         }
     }
 }
