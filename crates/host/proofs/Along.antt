@@ -1,5 +1,5 @@
 -- A host along a list of calls. Assumes nothing.
-use Rattle.std.proofs.Common.{◌≡◌, ℕ, ◌+◌, ◌<◌, ◌≤◌, Bool, true, false, cond, not, eqb, List, [], ◌∷◌, length, get_or, drop, is_some, is_ok, Some, None, Option, Result, sym, refl, ap, ◌∙◌, subst, ap₂, ⊎_elim, arith}
+use Rattle.std.proofs.Common.{◌≡◌, ℕ, ◌+◌, ◌<◌, ◌≤◌, Bool, true, false, cond, not, List, length, get_or, drop, is_some, is_ok, Some, None, Option, Result, sym, refl, ap, ◌∙◌, subst, ⊎_elim, arith}
 use Rattle.std.proofs.lemmas.List.{at_drop_more, at_drop_all}
 use Rattle.std.proofs.lemmas.Bool.Decides.{nat_tests, eqb_tells}
 use Rattle.values.specs.Checks.{after, answer, first_fault}
@@ -8,7 +8,7 @@ use Rattle.values.specs.declared.Entry.{Entry}
 use Rattle.values.specs.declared.Fault.{Fault}
 use Rattle.values.specs.declared.HostState.{HostState}
 use Rattle.values.specs.declared.HostState.TheVariants.{Unknown, Open, Standing, Void, Reversed}
-use Rattle.host.specs.Keys.{RowKey, same_row, is_row}
+use Rattle.host.specs.Keys.{RowKey}
 use Rattle.host.specs.View.{View, Sound, is_unknown, put, moved, begun, move_checks, begin_checks}
 use Rattle.host.specs.Calls.{fault_of, done, after_call, after_calls, accepted}
 use Rattle.host.specs.Later.{Turn, begins, stands, voids, undoes, Path, stays, turns, Later}

@@ -1,5 +1,5 @@
 -- Views that show the same are the same; a switch that is on. Assumes nothing.
-use Rattle.std.proofs.Common.{◌≡◌, ℕ, Bool, true, Some, None, Option, Result, sym, refl, subst}
+use Rattle.std.proofs.Common.{◌≡◌, Bool, true, Some, None, Option, Result, sym, refl, subst}
 use Rattle.values.specs.Checks.{after}
 use Rattle.values.specs.declared.Entry.{Entry}
 use Rattle.values.specs.declared.Kind.{Kind}

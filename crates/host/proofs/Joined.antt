@@ -1,8 +1,8 @@
 -- A call on one of a pair's hosts is that call on the pair. Assumes nothing.
-use Rattle.std.proofs.Common.{◌≡◌, ℕ, ◌-◌, Bool, true, false, cond, not, ◌&&◌, ◌||◌, eqb, List, [], ◌∷◌, Option, Result, sym, refl, ap, ◌∙◌, ap₂, arith}
+use Rattle.std.proofs.Common.{◌≡◌, true, false, ◌||◌, Result, refl, ap, ◌∙◌, arith}
 use Rattle.std.proofs.lemmas.Bool.Decides.{nat_tests}
-use Rattle.values.specs.Checks.{bad, first_fault, answer, after}
-use Rattle.values.specs.Numbers.{same_kind, same_host_state}
+use Rattle.values.specs.Checks.{first_fault, answer, after}
+use Rattle.values.specs.Numbers.{same_kind}
 use Rattle.values.specs.declared.Entry.{Entry}
 use Rattle.values.specs.declared.Kind.{Kind}
 use Rattle.values.specs.declared.HostState.{HostState}

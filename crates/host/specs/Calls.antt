@@ -1,5 +1,5 @@
 -- Lists of calls on a host: what it shows after them, and how many it accepted. Assumes nothing.
-use Rattle.std.specs.Prelude.{ℕ, ◌+◌, Bool, true, false, cond, List, [], ◌∷◌, is_some, Option}
+use Rattle.std.specs.Prelude.{ℕ, ◌+◌, cond, List, [], ◌∷◌, is_some, Option}
 use Rattle.values.specs.Checks.{first_fault, after}
 use Rattle.values.specs.declared.HostState.TheVariants.{Open, Standing, Void, Reversed}
 use Rattle.values.specs.declared.Fault.{Fault}

@@ -1,5 +1,5 @@
 -- What calls can never do to a host. Assumes nothing.
-use Rattle.std.specs.Prelude.{◌≡◌, ℕ, ◌≤◌, Some, Option}
+use Rattle.std.specs.Prelude.{◌≡◌, ◌≤◌, Some}
 use Rattle.values.specs.declared.Entry.{Entry}
 use Rattle.values.specs.declared.Kind.{Kind}
 use Rattle.values.specs.declared.HostState.{HostState}

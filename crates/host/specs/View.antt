@@ -1,5 +1,5 @@
 -- What a host shows, and what each call does to it. Assumes nothing.
-use Rattle.std.specs.Prelude.{◌≡◌, ℕ, ◌-◌, Bool, true, false, cond, not, ◌&&◌, List, [], ◌∷◌, is_some, Some, None, Option, Result, ◌==◌}
+use Rattle.std.specs.Prelude.{◌≡◌, ℕ, ◌-◌, Bool, false, cond, not, ◌&&◌, List, [], ◌∷◌, is_some, Some, None, Option, Result, ◌==◌}
 use Rattle.values.specs.Checks.{bad, first_fault, answer, after}
 use Rattle.values.specs.Numbers.{same_kind, same_host_state}
 use Rattle.values.specs.declared.Entry.{Entry}

@@ -1,9 +1,8 @@
 -- A number is read digit by digit, and no further than past its limit. Assumes nothing.
-use Rattle.std.proofs.Common.{◌≡◌, ℕ, ◌+◌, ◌-◌, ◌*◌, ◌^◌, ◌<◌, ◌≤◌, true, false, cond, leb, ◌⊎◌, List, [], ◌∷◌, length, get_or, take, Ok, Err, Result, sym, refl, ap, ◌∙◌, inl, inr, ⊎_elim, arith}
+use Rattle.std.proofs.Common.{◌≡◌, ℕ, ◌+◌, ◌-◌, ◌*◌, ◌^◌, ◌<◌, ◌≤◌, true, ◌⊎◌, List, [], ◌∷◌, length, get_or, take, Ok, Err, refl, inl, inr, ⊎_elim, arith}
 use Rattle.std.proofs.lemmas.List.Sums.{fold_more}
 use Rattle.std.proofs.lemmas.Bool.{le-leb, lt-leb}
-use Rattle.journal.specs.declared.Wrong.{Wrong}
-use Rattle.journal.specs.declared.Wrong.TheVariants.{NotANumber, NumberTooLarge}
+use Rattle.journal.specs.declared.Wrong.TheVariants.{NumberTooLarge}
 use Rattle.journal.specs.declared.text.Class.TheVariants.{Digit}
 use Rattle.journal.specs.Text.{every, in_class, value, number}
 

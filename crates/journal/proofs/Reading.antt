@@ -3,7 +3,7 @@ use Rattle.std.proofs.Common.{◌≡◌, ℕ, ◌+◌, ◌-◌, ◌<◌, ◌≤�
 use Rattle.std.proofs.lemmas.List.{take_more, take_all, drop_all, get_or-drop, length-drop, length-take-le, at_drop_more}
 use Rattle.std.proofs.lemmas.Bool.{eq-eqb, ne_eqb}
 use Rattle.journal.specs.declared.Unreadable.{Unreadable}
-use Rattle.journal.specs.Text.{trimmed, unless_empty, lines_after}
+use Rattle.journal.specs.Text.{trimmed, lines_after}
 use Rattle.journal.specs.Settings.{and_then, at_line, after_line, completed, read_on, journal, Settings, Contents}
 
 -- the next byte ends the line, or belongs to it

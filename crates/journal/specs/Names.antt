@@ -1,5 +1,5 @@
 -- The steps that a stored process hands out, as the summary of a blank sheet tells them. Assumes nothing.
-use Rattle.std.specs.Prelude.{ℕ, zero, suc, Bool, true, false, cond, List, [], ◌∷◌, map, Some, None, Ok, Err, vec_items, string_bytes, Option, Result, Vec}
+use Rattle.std.specs.Prelude.{ℕ, zero, suc, Bool, cond, List, [], ◌∷◌, map, Some, None, Ok, Err, vec_items, string_bytes, Option, Result, Vec}
 use Rattle.std.specs.declared.alloc.Global.{Global}
 use Rattle.values.specs.declared.Fault.{Fault}
 use Rattle.values.specs.declared.RowState.TheVariants.{Absent}

@@ -2,7 +2,6 @@
 use Rattle.std.specs.Prelude.{ℕ, ◌+◌, cond, List, [], ◌∷◌, ◌++◌, map, vec_items, string_bytes, codes, decimal}
 use Rattle.values.specs.declared.Phase.{Phase}
 use Rattle.values.specs.declared.Phase.TheVariants.{Forward, Undoing, Parked}
-use Rattle.values.specs.declared.RowState.{RowState}
 use Rattle.values.specs.declared.RowState.TheVariants.{Absent, Running, Committed, Dropped, Due, Undone, PassedOver}
 use Rattle.values.specs.Texts.{spelled}
 use Rattle.journal.specs.declared.Wrong.{Wrong}

@@ -1,5 +1,5 @@
 -- The bytes of a journal: its lines, words, numbers and hex digits. Assumes nothing.
-use Rattle.std.specs.Prelude.{◌≡◌, ℕ, ◌+◌, ◌-◌, ◌*◌, ◌%◌, Bool, true, false, cond, not, ◌&&◌, ◌||◌, List, [], ◌∷◌, ◌++◌, length, take, is_some, Some, None, Ok, Err, fold, Option, Result, MatchResult, ◌==◌, nat_le, slice_index}
+use Rattle.std.specs.Prelude.{◌≡◌, ℕ, ◌+◌, ◌-◌, ◌*◌, ◌%◌, Bool, true, cond, not, ◌&&◌, ◌||◌, List, [], ◌∷◌, ◌++◌, length, take, is_some, Some, None, Ok, Err, fold, Option, Result, MatchResult, ◌==◌, nat_le, slice_index}
 use Rattle.std.specs.Option.{unwrap_or}
 use Rattle.journal.specs.declared.text.Class.{Class}
 use Rattle.journal.specs.declared.text.Class.TheVariants.{Blank, Solid, Allowed, Digit, Hex}

@@ -1,20 +1,19 @@
 -- What a ledger shows after one line more. Assumes nothing.
-use Rattle.std.proofs.Common.{◌≡◌, ℕ, ◌+◌, ◌-◌, ◌<◌, ◌≤◌, Bool, true, false, cond, not, ◌&&◌, eqb, ◌⊎◌, List, [], ◌∷◌, ◌++◌, is_some, Some, None, Option, sym, refl, ap, ◌∙◌, inl, inr, ⊎_elim, arith}
+use Rattle.std.proofs.Common.{◌≡◌, ℕ, ◌-◌, ◌<◌, true, false, cond, List, [], ◌∷◌, ◌++◌, is_some, Some, None, Option, refl, ap, ⊎_elim, arith}
 use Rattle.std.proofs.lemmas.Bool.Decides.{nat_tests}
 use Rattle.std.proofs.lemmas.Bool.{cases_Bool}
 use Rattle.values.specs.Numbers.{same_kind, same_host_state}
 use Rattle.values.specs.declared.Entry.{Entry}
 use Rattle.values.specs.declared.Kind.{Kind}
 use Rattle.values.specs.declared.Kind.TheVariants.{Fee}
-use Rattle.values.specs.declared.HostState.{HostState}
-use Rattle.values.specs.declared.HostState.TheVariants.{Unknown, Open}
-use Rattle.host.specs.Keys.{RowKey, same_row, is_row}
-use Rattle.host.specs.View.{View, is_unknown, begun, moved}
+use Rattle.values.specs.declared.HostState.TheVariants.{Unknown}
+use Rattle.host.specs.Keys.{RowKey, is_row}
+use Rattle.host.specs.View.{is_unknown, begun, moved}
 use Rattle.host.proofs.Ext.{view_ext}
 use Rattle.ledger.specs.declared.lines.Mark.{Mark}
 use Rattle.ledger.specs.declared.lines.Mark.TheVariants.{Hold, Post, Contra, Release}
 use Rattle.ledger.specs.declared.lines.Line.{Line}
-use Rattle.ledger.specs.Lines.{last_of, state_at, state_by, entry_by, kept_by, hold_line}
+use Rattle.ledger.specs.Lines.{last_of, state_at, state_by, kept_by, hold_line}
 use Rattle.ledger.proofs.Added.{last_push}
 
 -- marks whose states are the same are the same

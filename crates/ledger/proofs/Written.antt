@@ -1,5 +1,5 @@
 -- What a call on a ledger answers, shows and writes: nothing, or one line. Assumes nothing.
-use Rattle.std.proofs.Common.{◌≡◌, ℕ, ◌-◌, ◌≤◌, Bool, true, false, ◌&&◌, List, [], ◌∷◌, ◌++◌, length, take, drop, Some, None, Ok, Err, Option, Result, sym, refl, ap, ◌∙◌, ap₂, arith}
+use Rattle.std.proofs.Common.{◌≡◌, ◌-◌, Bool, true, false, ◌&&◌, List, [], ◌∷◌, ◌++◌, length, take, drop, Some, None, Ok, Err, Option, Result, sym, refl, ap, ◌∙◌, ap₂, arith}
 use Rattle.std.proofs.lemmas.List.{take_all, take-append-le}
 use Rattle.std.proofs.lemmas.Bool.{and_from}
 use Rattle.values.specs.Checks.{after, first_fault}
@@ -9,7 +9,7 @@ use Rattle.values.specs.declared.Entry.{Entry}
 use Rattle.values.specs.declared.Fault.{Fault}
 use Rattle.values.specs.declared.Kind.TheVariants.{Fee}
 use Rattle.host.specs.Keys.{RowKey, is_row}
-use Rattle.host.specs.View.{View, Begins, Moves, begin_checks, begun, move_checks, moved}
+use Rattle.host.specs.View.{Begins, Moves, begin_checks, begun, move_checks, moved}
 use Rattle.host.proofs.Checks.{fault_at, move_declined, move_passes, declined_moves, accepted_moves, declined_begins, accepted_begins}
 use Rattle.ledger.specs.declared.lines.Mark.{Mark}
 use Rattle.ledger.specs.declared.lines.Line.{Line}

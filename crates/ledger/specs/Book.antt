@@ -1,5 +1,5 @@
 -- A ledger: its lines, the rest of its table, what it shows, and what its calls write. Assumes nothing.
-use Rattle.std.specs.Prelude.{◌≡◌, ℕ, ◌-◌, ◌/◌, min, List, [], ◌∷◌, ◌++◌, length, take, drop, vec_items, vec_len, Option}
+use Rattle.std.specs.Prelude.{◌≡◌, ℕ, ◌-◌, ◌/◌, min, List, ◌++◌, length, take, drop, vec_items, vec_len, Option}
 use Rattle.values.specs.Checks.{after}
 use Rattle.values.specs.declared.Fault.{Fault}
 use Rattle.host.specs.View.{View}

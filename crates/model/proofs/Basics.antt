@@ -1,5 +1,5 @@
 -- Checks that passed, states that are equal, searches and lists. Assumes nothing.
-use Rattle.std.proofs.Common.{◌≡◌, ℕ, zero, suc, ◌+◌, ◌<◌, ◌≤◌, Bool, true, false, cond, not, ◌&&◌, ◌||◌, eqb, ◌⊎◌, List, [], ◌∷◌, ◌++◌, Some, None, Option, sym, refl, ap, ◌∙◌, subst, inl, inr, arith}
+use Rattle.std.proofs.Common.{◌≡◌, ℕ, zero, suc, ◌<◌, Bool, true, false, cond, not, eqb, ◌⊎◌, List, [], ◌∷◌, ◌++◌, Some, None, Option, sym, refl, ap, ◌∙◌, subst, inl, inr, arith}
 use borrow.Author.Tests.{clash}
 use Rattle.std.specs.Option.{option_or}
 use Rattle.std.proofs.lemmas.Bool.{or_cases, or_left, or_right, eqb-true, eqb-false, eq-eqb, ne_eqb, not-false, cases_Bool}
@@ -9,9 +9,7 @@ use Rattle.values.specs.declared.Cause.{Cause}
 use Rattle.values.specs.declared.Fault.{Fault}
 use Rattle.values.specs.declared.Layer.{Layer}
 use Rattle.values.specs.declared.Phase.{Phase}
-use Rattle.values.specs.declared.Phase.TheVariants.{Forward, Undoing, Parked}
 use Rattle.values.specs.declared.RowState.{RowState}
-use Rattle.values.specs.declared.RowState.TheVariants.{Absent, Running, Committed, Dropped, Due, Undone, PassedOver}
 use Rattle.model.specs.Search.{any_below, first_below, each_below, all_below, any, has, at_put, In, here, there}
 
 -- ── checks that passed ──

@@ -1,5 +1,5 @@
 -- Every sheet that events lead to is orderly. Assumes nothing.
-use Rattle.std.proofs.Common.{◌≡◌, ℕ, ◌≤◌, List, None, refl, arith}
+use Rattle.std.proofs.Common.{◌≡◌, ℕ, List, None, refl, arith}
 use borrow.Author.Tests.{clash}
 use Rattle.values.specs.declared.Entry.{Entry}
 use Rattle.values.specs.declared.Mode.{Mode}

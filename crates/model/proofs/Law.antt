@@ -1,7 +1,6 @@
 -- The law over every run, from its parts. Assumes nothing.
-use Rattle.std.proofs.Common.{◌≡◌, ℕ, List, [], ◌∷◌, ◌++◌, length, Some, None, Option, sym, refl, ap, ◌∙◌, subst, arith}
-use Rattle.values.specs.declared.Answer.{Answer}
-use Rattle.values.specs.declared.Answer.TheVariants.{Done, Declined}
+use Rattle.std.proofs.Common.{◌≡◌, ℕ, length, Some, None, Option, sym, refl, subst, arith}
+use Rattle.values.specs.declared.Answer.TheVariants.{Done}
 use Rattle.values.specs.declared.Fault.{Fault}
 use Rattle.values.specs.declared.RowState.TheVariants.{Due}
 use Rattle.values.specs.declared.TicketNumber.{TicketNumber}
@@ -9,7 +8,7 @@ use Rattle.host.specs.View.{View, Fresh, Sound}
 use Rattle.model.specs.Chart.{Chart}
 use Rattle.model.specs.Rollback.{After}
 use Rattle.model.specs.Calls.{undo_fault}
-use Rattle.model.specs.Run.{World, Lent, Event, undo, finish, does, said, History, Leads, nothing, one_more, opening}
+use Rattle.model.specs.Run.{World, Lent, Event, undo, does, said, History, Leads, nothing, one_more, opening}
 use Rattle.model.specs.Book.{book_of, undos_of}
 use Rattle.model.specs.Sheets.{Orderly, HostFollows}
 use Rattle.model.specs.Histories.{Finished, EventLaw, LawfulHistory, LawOverEveryRun}

@@ -1,5 +1,5 @@
 -- One lemma for every invariant: what each accepted call keeps, every event keeps. Assumes nothing.
-use Rattle.std.proofs.Common.{◌≡◌, ℕ, ◌+◌, Bool, cond, List, length, Some, None, Option, refl}
+use Rattle.std.proofs.Common.{◌≡◌, ℕ, ◌+◌, Bool, List, length, Some, None, Option, refl}
 use Rattle.values.specs.Checks.{after}
 use Rattle.values.specs.declared.Entry.{Entry}
 use Rattle.values.specs.declared.Fault.{Fault}

@@ -1,5 +1,5 @@
 -- A process as a sheet needs it: its steps without their names, and its arrows. Assumes nothing.
-use Rattle.std.specs.Prelude.{ℕ, ◌-◌, Bool, true, false, cond, ◌&&◌, List, length, count_by, ◌==◌, nat_eq, nat_le, slice_index_or}
+use Rattle.std.specs.Prelude.{ℕ, ◌-◌, Bool, false, cond, ◌&&◌, List, length, count_by, ◌==◌, nat_eq, nat_le, slice_index_or}
 use Rattle.values.specs.declared.Flow.{Flow}
 use Rattle.values.specs.declared.Flow.TheVariants.{One, All}
 use Rattle.values.specs.declared.Kind.TheVariants.{Score}

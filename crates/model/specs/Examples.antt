@@ -1,20 +1,17 @@
 -- Eight worked examples, computed from the definitions. Assumes nothing.
-use Rattle.std.specs.Prelude.{◌≡◌, ℕ, ◌+◌, Bool, true, false, List, [], ◌∷◌, ◌++◌, map, take, replicate, ℤ, pos, negsuc, Some, None, codes, Option}
+use Rattle.std.specs.Prelude.{◌≡◌, ℕ, ◌+◌, true, false, List, [], ◌∷◌, map, take, replicate, ℤ, pos, negsuc, Some, None, codes, Option}
 use Rattle.values.specs.declared.Answer.{Answer}
 use Rattle.values.specs.declared.Answer.TheVariants.{Done, Declined}
 use Rattle.values.specs.declared.Cause.TheVariants.{DueAfter}
 use Rattle.values.specs.declared.Entry.{Entry}
-use Rattle.values.specs.declared.Flow.{Flow}
 use Rattle.values.specs.declared.Flow.TheVariants.{One, All}
-use Rattle.values.specs.declared.Kind.{Kind}
 use Rattle.values.specs.declared.Kind.TheVariants.{Score, Fee}
 use Rattle.values.specs.declared.Layer.TheVariants.{Sheet as OfSheet}
-use Rattle.values.specs.declared.Mode.{Mode}
 use Rattle.values.specs.declared.Mode.TheVariants.{Partial}
 use Rattle.values.specs.declared.RowArrow.{RowArrow}
 use Rattle.values.specs.declared.RowState.TheVariants.{Due}
 use Rattle.values.specs.declared.TicketNumber.{TicketNumber}
-use Rattle.process.specs.Stored.{Named, Plan, stored}
+use Rattle.process.specs.Stored.{Plan, stored}
 use Rattle.process.specs.declared.parts.Step.{Step}
 use Rattle.process.specs.declared.parts.Arrow.{Arrow}
 use Rattle.host.specs.View.{View}
@@ -24,7 +21,7 @@ use Rattle.model.specs.Chart.{Chart}
 use Rattle.model.specs.Rows.{in_state}
 use Rattle.model.specs.Rollback.{strikes, restart_points}
 use Rattle.model.specs.Sheet.{graph_arrows}
-use Rattle.model.specs.Run.{Lent, World, Event, start, end, abort, undo, finish, reply, does, runs, opening}
+use Rattle.model.specs.Run.{Lent, Event, start, end, abort, undo, finish, reply, does, runs, opening}
 
 -- ── processes ──
 

@@ -1,6 +1,5 @@
 -- The law over every run. Assumes nothing.
-use Rattle.std.specs.Prelude.{◌≡◌, ℕ, ◌≤◌, Bool, true, List, [], ◌∷◌, ◌++◌, map, ◌≢◌}
-use Rattle.values.specs.declared.Answer.{Answer}
+use Rattle.std.specs.Prelude.{◌≡◌, ℕ, ◌≤◌, true, List, [], ◌∷◌, ◌++◌, map, ◌≢◌}
 use Rattle.values.specs.declared.Answer.TheVariants.{Done}
 use Rattle.values.specs.declared.Entry.{Entry}
 use Rattle.values.specs.declared.RowState.TheVariants.{Due}

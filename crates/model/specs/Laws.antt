@@ -1,7 +1,6 @@
 -- The laws of sheets that calls lead to, each for every process, serial, fresh host, memory and list of events.
 use Rattle.std.specs.Prelude.{◌≡◌, ℕ, ◌≤◌, length, None}
 use Rattle.values.specs.declared.Mode.{Mode}
-use Rattle.host.specs.View.{View}
 use Rattle.model.specs.Chart.{Chart}
 use Rattle.model.specs.Calls.{abort_fault}
 use Rattle.model.specs.Run.{World, Event}

@@ -1,6 +1,5 @@
 -- Which rows a rollback takes back, in which order, and where the competition may go on. Assumes nothing.
 use Rattle.std.specs.Prelude.{◌≡◌, ℕ, zero, suc, ◌+◌, Bool, true, false, cond, not, ◌&&◌, ◌||◌, List, [], ◌∷◌, ◌++◌, filter, ◌==◌, nat_eq}
-use Rattle.values.specs.Numbers.{same_state}
 use Rattle.values.specs.declared.Mode.{Mode}
 use Rattle.values.specs.declared.Mode.TheVariants.{Complete, Partial}
 use Rattle.values.specs.declared.RowState.{RowState}

@@ -1,11 +1,10 @@
 -- The sheet of one competition, and its compensating graph. Assumes nothing.
-use Rattle.std.specs.Prelude.{ℕ, ◌+◌, Bool, cond, ◌&&◌, ◌||◌, List, [], ◌∷◌, map, ◌==◌}
+use Rattle.std.specs.Prelude.{ℕ, ◌+◌, Bool, cond, ◌&&◌, ◌||◌, List, [], map, ◌==◌}
 use Rattle.values.specs.declared.Mode.{Mode}
 use Rattle.values.specs.declared.Mode.TheVariants.{Complete}
 use Rattle.values.specs.declared.Phase.{Phase}
 use Rattle.values.specs.declared.Phase.TheVariants.{Forward, Undoing}
 use Rattle.values.specs.declared.RowArrow.{RowArrow}
-use Rattle.values.specs.declared.RowState.{RowState}
 use Rattle.values.specs.declared.RowState.TheVariants.{Running, Due, Undone}
 use Rattle.values.specs.declared.TicketNumber.{TicketNumber}
 use Rattle.model.specs.Search.{each_below, all_below}

@@ -1,6 +1,5 @@
 -- What holds of every sheet, and what an abort does. Assumes nothing.
-use Rattle.std.specs.Prelude.{◌≡◌, ℕ, zero, suc, ◌+◌, ◌<◌, ◌≤◌, true, false, cond, ◌||◌, List, [], Some, None, Decides, Option, ◌≢◌, nat_eq}
-use Rattle.values.specs.Numbers.{same_state}
+use Rattle.std.specs.Prelude.{◌≡◌, ℕ, zero, suc, ◌+◌, ◌<◌, ◌≤◌, true, false, cond, List, [], Some, None, Decides, Option, ◌≢◌, nat_eq}
 use Rattle.values.specs.declared.Entry.{Entry}
 use Rattle.values.specs.declared.HostState.{HostState}
 use Rattle.values.specs.declared.HostState.TheVariants.{Unknown, Open, Standing, Void, Reversed}
@@ -13,7 +12,7 @@ use Rattle.host.specs.Keys.{key_of}
 use Rattle.host.specs.View.{View}
 use Rattle.model.specs.Search.{has}
 use Rattle.model.specs.Chart.{Chart}
-use Rattle.model.specs.Rows.{Rows, live, idle}
+use Rattle.model.specs.Rows.{live, idle}
 use Rattle.model.specs.Rollback.{After, after, backward, strikes}
 use Rattle.model.specs.Sheet.{Sheet, aborted, in_graph}
 use Rattle.model.specs.Relations.{Backward, StruckSet}

@@ -1,5 +1,5 @@
 -- The stored form of good records is read back record by record. Assumes nothing.
-use Rattle.std.proofs.Common.{◌≡◌, ℕ, ◌+◌, ◌-◌, ◌<◌, ◌≤◌, true, false, ◌⊎◌, List, [], ◌∷◌, ◌++◌, length, get_or, take, drop, Some, None, Ok, Err, Result, sym, refl, ap, ◌∙◌, subst, ap₂, inl, inr, ⊎_elim, append_assoc, append-nil, arith, length-append}
+use Rattle.std.proofs.Common.{◌≡◌, ℕ, ◌+◌, ◌<◌, ◌≤◌, true, List, [], ◌∷◌, ◌++◌, length, get_or, drop, Some, Ok, Result, sym, refl, ap, ◌∙◌, subst, ap₂, ⊎_elim, append_assoc, append-nil, arith, length-append}
 use Rattle.std.proofs.lemmas.List.{drop_at}
 use Rattle.std.proofs.lemmas.Bool.{cases_lt}
 use Rattle.values.specs.declared.Fault.{Fault}
@@ -9,11 +9,11 @@ use Rattle.values.specs.Numbers.{kind_number}
 use Rattle.process.specs.declared.parts.Arrow.{Arrow}
 use Rattle.process.specs.declared.cursor.Cursor.{Cursor}
 use Rattle.process.specs.declared.cursor.Expected.{Expected}
-use Rattle.process.specs.declared.cursor.Expected.TheVariants.{HeaderRecord, StepRecord, ArrowRecord, NoRecord}
+use Rattle.process.specs.declared.cursor.Expected.TheVariants.{HeaderRecord, StepRecord, ArrowRecord}
 use Rattle.process.specs.Stored.{Named, Plan, All, Nameable, Placed, Before, Rising, no_arrow}
-use Rattle.process.specs.Stored.{header_form, step_form, arrow_form, steps_form, arrows_form, form_of, step_fields, arrow_fields, header_fields}
-use Rattle.process.specs.Reading.{Record, header, step, arrow, Got, got, size, moved, next, next_of, expected, start, no_plan, with_record}
-use Rattle.process.specs.Reading.{header_at, step_at, arrow_at, name_length, read_step, read_arrow, Scans, Scan, more}
+use Rattle.process.specs.Stored.{header_form, step_form, arrow_form, steps_form, arrows_form, step_fields, header_fields}
+use Rattle.process.specs.Reading.{header, step, arrow, got, moved, next, next_of, start, no_plan, with_record}
+use Rattle.process.specs.Reading.{header_at, step_at, name_length, read_arrow, Scans, Scan, more}
 use Rattle.process.specs.Good.{Good, GoodHeader, GoodStep, GoodArrow}
 use Rattle.process.specs.Front.{Front, nothing_read, read-so-far, SoFar, cursor_after, last_of}
 use Rattle.process.proofs.Nexts.{next_given}

@@ -1,5 +1,5 @@
 -- The answer for any bytes: one, and in the words of the stored form. Assumes nothing.
-use Rattle.std.proofs.Common.{◌≡◌, ℕ, ◌<◌, ◌≤◌, true, false, ◌⊎◌, List, [], ◌∷◌, ◌++◌, length, Some, None, Ok, Err, Result, sym, refl, ap, ◌∙◌, subst, inl, inr, ⊎_elim, append-nil, arith, MatchResult}
+use Rattle.std.proofs.Common.{◌≡◌, ℕ, List, [], length, Ok, Err, Result, sym, refl, ap, ◌∙◌, subst, inl, inr, append-nil, arith}
 use Rattle.std.proofs.lemmas.Bool.{cases_order}
 use Rattle.values.specs.declared.Cause.TheVariants.{WrongStep}
 use Rattle.values.specs.declared.Layer.TheVariants.{Reader}
@@ -7,15 +7,14 @@ use Rattle.values.specs.declared.Fault.{Fault}
 use Rattle.graph.specs.Reach.{Within}
 use Rattle.process.specs.declared.parts.Arrow.{Arrow}
 use Rattle.process.specs.declared.accepted.Process.{Process}
-use Rattle.process.specs.declared.cursor.Cursor.{Cursor}
 use Rattle.process.specs.declared.cursor.Expected.TheVariants.{NoRecord}
-use Rattle.process.specs.Stored.{Plan, Fine, Formed, Sound, stored, form_of}
-use Rattle.process.specs.Reading.{Scans, Scan, declined, ended, next, expected, checks, got, start, no_plan, FirstUnfit}
+use Rattle.process.specs.Stored.{Plan, Fine, Formed, Sound, stored}
+use Rattle.process.specs.Reading.{Scan, declined, ended, expected, FirstUnfit}
 use Rattle.process.specs.Reading.{Answer, faulty, unfit, accepted}
 use Rattle.process.specs.Good.{GoodEnd}
 use Rattle.process.specs.Front.{Front, nothing_read, read-so-far, SoFar, cursor_after, FirstFault, in-record, in_step}
 use Rattle.process.specs.Drafts.{bare_plan}
-use Rattle.process.specs.Accepted.{tables_of, StandsFor, Reading}
+use Rattle.process.specs.Accepted.{tables_of, Reading}
 use Rattle.process.proofs.Nexts.{next_declined}
 use Rattle.process.proofs.Forms.{Bytes}
 use Rattle.process.proofs.Outcomes.{scan_outcome, scans_same}

@@ -1,7 +1,7 @@
 -- No check of a record stands exactly if the record is good. Assumes nothing.
-use Rattle.std.proofs.Common.{◌≡◌, ℕ, ◌+◌, ◌<◌, ◌≤◌, Bool, true, false, cond, not, ◌&&◌, ◌||◌, eqb, ltb, ◌⊎◌, List, [], ◌∷◌, length, Some, None, Option, sym, refl, ap, ◌∙◌, inl, inr, ⊎_elim, arith}
+use Rattle.std.proofs.Common.{◌≡◌, ℕ, ◌+◌, ◌<◌, ◌≤◌, Bool, true, false, cond, not, ◌&&◌, ◌||◌, eqb, ltb, List, [], ◌∷◌, length, Some, None, Option, refl, inl, inr, ⊎_elim, arith}
 use Rattle.std.proofs.lemmas.Bool.Decides.{nat_tests}
-use Rattle.std.proofs.lemmas.Bool.{or_parts, or_from, or_cases, or_left, or_right, and_parts, and_from, not-false, not_from_true, both_ways, ltb-true, ltb-false, eqb-true, eqb-false, lt-ltb, le-ltb, eq-eqb, ne_eqb, cases_Bool}
+use Rattle.std.proofs.lemmas.Bool.{or_parts, or_from, or_cases, or_left, or_right, and_parts, and_from, not-false, not_from_true, ltb-true, ltb-false, eqb-true, eqb-false, lt-ltb, le-ltb, eq-eqb, ne_eqb}
 use Rattle.values.specs.Checks.{first_fault}
 use Rattle.values.specs.declared.Fault.{Fault}
 use Rattle.process.specs.declared.parts.Arrow.{Arrow}
@@ -10,7 +10,7 @@ use Rattle.process.specs.declared.cursor.Expected.{Expected}
 use Rattle.process.specs.declared.cursor.Expected.TheVariants.{HeaderRecord, StepRecord, ArrowRecord, NoRecord}
 use Rattle.process.specs.Stored.{Before}
 use Rattle.process.specs.Reading.{expected, checks, before, header_at, step_at, arrow_at, name_length, read_arrow}
-use Rattle.process.specs.Good.{Good, GoodHeader, GoodStep, GoodArrow, GoodEnd}
+use Rattle.process.specs.Good.{Good}
 
 -- a check that stands if b, as `bad` has it
 abbrev check : Bool → Fault → Option Fault

@@ -1,5 +1,5 @@
 -- A record and its stored form: reading the form gives the record back, and the other way round. Assumes nothing.
-use Rattle.std.proofs.Common.{◌≡◌, ℕ, zero, suc, ◌+◌, ◌-◌, ◌*◌, ◌/◌, ◌%◌, ◌^◌, ◌<◌, ◌≤◌, Bool, true, false, cond, eqb, List, [], ◌∷◌, ◌++◌, length, get_or, take, drop, sym, refl, ap, ◌∙◌, subst, ap₂, append_assoc, mod-eq_of_lt, arith}
+use Rattle.std.proofs.Common.{◌≡◌, ℕ, zero, suc, ◌+◌, ◌-◌, ◌^◌, ◌<◌, ◌≤◌, Bool, true, false, eqb, List, [], ◌∷◌, ◌++◌, length, get_or, take, drop, sym, refl, ap, ◌∙◌, ap₂, append_assoc, mod-eq_of_lt, arith}
 use Rattle.std.proofs.lemmas.Bool.Decides.{nat_tests}
 use Rattle.std.proofs.lemmas.List.{length-take-le, drop-drop, take-append-drop, take_at}
 use Rattle.values.specs.Numbers.{flow_number, kind_number}
@@ -8,11 +8,10 @@ use Rattle.values.specs.declared.Flow.TheVariants.{One, All}
 use Rattle.values.specs.declared.Kind.{Kind}
 use Rattle.values.specs.declared.Kind.TheVariants.{Score, Fee}
 use Rattle.process.specs.declared.parts.Arrow.{Arrow}
-use Rattle.process.specs.declared.parts.Step.{Step}
-use Rattle.process.specs.Bits.{total, pack, unpack, Fit, two_bytes, four_bytes}
+use Rattle.process.specs.Bits.{pack, unpack, Fit, two_bytes, four_bytes}
 use Rattle.process.specs.Stored.{Named, header_widths, step_widths, arrow_widths, bit}
 use Rattle.process.specs.Stored.{header_fields, step_fields, arrow_fields, header_form, step_form, arrow_form}
-use Rattle.process.specs.Reading.{word2, word4, header_at, step_at, arrow_at, flow_of, kind_of, name_length, step_of, read_step, read_arrow}
+use Rattle.process.specs.Reading.{word2, word4, header_at, step_at, arrow_at, flow_of, kind_of, name_length, read_step, read_arrow}
 use Rattle.process.proofs.Packing.{pack_unpack, unpack_fit, pack_below, unpack_pack, repacked}
 
 -- every element is a byte

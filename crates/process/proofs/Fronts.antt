@@ -1,12 +1,11 @@
 -- What was read so far, with one record more. Assumes nothing.
-use Rattle.std.proofs.Common.{◌≡◌, ℕ, suc, ◌+◌, ◌-◌, ◌<◌, ◌≤◌, true, false, ◌⊎◌, List, [], ◌∷◌, ◌++◌, length, drop, sym, refl, ap, ◌∙◌, subst, ap₂, inl, inr, ⊎_elim, append_assoc, append-nil, arith, length-append}
+use Rattle.std.proofs.Common.{◌≡◌, ℕ, ◌+◌, ◌-◌, true, List, [], ◌∷◌, ◌++◌, length, sym, refl, ap, ◌∙◌, append_assoc, append-nil, arith, length-append}
 use Rattle.process.specs.declared.parts.Arrow.{Arrow}
-use Rattle.process.specs.declared.cursor.Cursor.{Cursor}
-use Rattle.process.specs.declared.cursor.Expected.TheVariants.{HeaderRecord, StepRecord, ArrowRecord}
-use Rattle.process.specs.Stored.{Named, Plan, All, Nameable, Placed, Before, Rising, no_arrow}
+use Rattle.process.specs.declared.cursor.Expected.TheVariants.{StepRecord, ArrowRecord}
+use Rattle.process.specs.Stored.{Named, Plan, All, Before, Rising, no_arrow}
 use Rattle.process.specs.Bits.{pack, unpack, two_bytes}
 use Rattle.process.specs.Stored.{step_widths, step_fields, header_form, step_form, arrow_form, steps_form, arrows_form, form_of}
-use Rattle.process.specs.Reading.{moved, name_length, read_step, read_arrow, with_record, step, arrow, no_plan}
+use Rattle.process.specs.Reading.{moved, name_length, read_arrow, with_record, step, arrow, no_plan}
 use Rattle.process.specs.Front.{last_of, cursor_after}
 
 pub all_push : {X : Type 0} (P : X → Type 0) (xs : List X) (x : X) → All P xs → P x → All P (xs ++ x ∷ [])

@@ -5,7 +5,7 @@ use Rattle.values.specs.Checks.{first_fault, answer}
 use Rattle.values.specs.declared.Fault.{Fault}
 use Rattle.process.specs.declared.cursor.Cursor.{Cursor}
 use Rattle.process.specs.declared.cursor.Expected.{Expected}
-use Rattle.process.specs.Reading.{Record, Got, checks, got, says, size, moved, next_of}
+use Rattle.process.specs.Reading.{Record, checks, got, says, size, moved, next_of}
 use Rattle.process.specs.declared.parts.Item.{Item}
 use Rattle.process.specs.Items.{told, said_by, stand_after}
 

@@ -1,17 +1,17 @@
 -- A scan of bytes, by the stored form of what it reads. Assumes nothing.
-use Rattle.std.proofs.Common.{◌≡◌, ℕ, ◌+◌, ◌-◌, ◌<◌, ◌≤◌, true, false, List, [], ◌∷◌, ◌++◌, length, take, drop, Some, None, Ok, Err, Result, sym, refl, ap, ◌∙◌, subst, ap₂, append-nil, arith}
+use Rattle.std.proofs.Common.{◌≡◌, ℕ, ◌+◌, ◌<◌, ◌≤◌, true, false, List, ◌++◌, length, drop, Some, None, Ok, Err, Result, sym, refl, ap, ◌∙◌, subst, ap₂, append-nil, arith}
 use Rattle.std.proofs.lemmas.Bool.{both_ways}
 use Rattle.std.proofs.lemmas.List.{length-take-le, length-drop}
 use Rattle.values.specs.declared.Fault.{Fault}
 use Rattle.process.specs.declared.cursor.Cursor.{Cursor}
 use Rattle.process.specs.declared.cursor.Expected.{Expected}
 use Rattle.process.specs.declared.cursor.Expected.TheVariants.{HeaderRecord, StepRecord, ArrowRecord, NoRecord}
-use Rattle.process.specs.Stored.{Plan, All, Nameable, Placed, Formed, stored, header_form, step_form, arrow_form, form_of, no_arrow}
-use Rattle.process.specs.Reading.{Record, header, step, arrow, Got, says, size, moved, next, expected, start, no_plan, with_record}
+use Rattle.process.specs.Stored.{Plan, All, Nameable, Placed, Formed, stored, step_form, arrow_form, form_of, no_arrow}
+use Rattle.process.specs.Reading.{Record, step, arrow, Got, says, size, moved, next, expected, no_plan, with_record}
 use Rattle.process.specs.Reading.{checks, got, Scans, declined, more, ended}
-use Rattle.process.specs.Reading.{header_at, step_at, word2, name_length, read_step, read_arrow}
+use Rattle.process.specs.Reading.{header_at, word2, name_length, read_step, read_arrow}
 use Rattle.process.specs.Good.{Good, GoodHeader, GoodStep, GoodArrow, GoodEnd}
-use Rattle.process.specs.Front.{FirstFault, in-record, Front, nothing_read, read-so-far, SoFar, cursor_after, last_of}
+use Rattle.process.specs.Front.{FirstFault, in-record, Front, nothing_read, read-so-far, SoFar, cursor_after}
 use Rattle.process.proofs.Packing.{unpack_fit}
 use Rattle.process.proofs.Forms.{Bytes, bytes_drop, header_back, step_back, arrow_back}
 use Rattle.process.proofs.Fronts.{all_push, rising_push, length_push, step_cursor, arrow_cursor, header_cursor, form_step, form_arrow, form_on}

@@ -1,8 +1,8 @@
 -- The reader's answers as steps of a scan, and the room in the tables along it. Assumes nothing.
-use Rattle.std.proofs.Common.{◌≡◌, ℕ, ◌+◌, ◌-◌, ◌<◌, ◌≤◌, true, false, List, [], ◌∷◌, ◌++◌, map, length, drop, Some, None, Ok, Err, Option, Result, sym, refl, ap, ◌∙◌, subst, arith, length-drop}
+use Rattle.std.proofs.Common.{◌≡◌, ℕ, ◌+◌, ◌<◌, ◌≤◌, true, false, List, [], ◌∷◌, length, drop, Some, None, Ok, Err, Option, Result, sym, refl, ap, ◌∙◌, subst, arith, length-drop}
 use Rattle.std.proofs.lemmas.Bool.{both_ways}
 use Rattle.std.proofs.lemmas.List.{map-append}
-use Rattle.values.specs.Checks.{first_fault, answer}
+use Rattle.values.specs.Checks.{first_fault}
 use Rattle.values.specs.declared.Fault.{Fault}
 use Rattle.process.specs.declared.cursor.Cursor.{Cursor}
 use Rattle.process.specs.declared.cursor.Expected.{Expected}

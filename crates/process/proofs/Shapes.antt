@@ -1,12 +1,11 @@
 -- What marks that are exactly the steps reached say of the steps. Assumes nothing.
-use Rattle.std.proofs.Common.{◌≡◌, ℕ, ◌<◌, ◌≤◌, true, false, List, [], ◌∷◌, is_ok, Some, None, Ok, Err, Option, Result, sym, refl, ap, ◌∙◌, arith, MatchResult}
+use Rattle.std.proofs.Common.{◌≡◌, ℕ, ◌≤◌, true, false, List, [], ◌∷◌, is_ok, Some, None, Ok, Err, Option, Result, sym, ◌∙◌, arith, MatchResult}
 use Rattle.std.proofs.lemmas.Bool.Decides.{nat_tests}
-use Rattle.graph.specs.Column.{marked, Marked}
-use Rattle.graph.specs.Reach.{Within, Start, Reached, Explored}
+use Rattle.graph.specs.Column.{Marked}
+use Rattle.graph.specs.Reach.{Start, Explored}
 use Rattle.process.specs.declared.parts.Arrow.{Arrow}
 use Rattle.process.specs.declared.parts.End.TheVariants.{Tail, Head}
-use Rattle.process.specs.Stored.{ends_at, Leads, Reachable, Fine}
-use Rattle.process.specs.Reading.{FirstUnfit}
+use Rattle.process.specs.Stored.{ends_at, Leads, Fine}
 use Rattle.process.specs.Shape.{fine_by, LowestUnfit, Shaped}
 
 -- the three parts of the test

@@ -1,11 +1,10 @@
 -- A search over rising arrows for the least step that an arrow leads to. Assumes nothing.
-use Rattle.std.proofs.Common.{◌≡◌, ℕ, zero, suc, ◌+◌, ◌<◌, ◌≤◌, true, false, ◌&&◌, ◌||◌, eqb, ltb, ◌⊎◌, List, [], ◌∷◌, length, get_or, Some, None, sym, refl, ap, ◌∙◌, inl, inr, ⊎_elim, arith}
+use Rattle.std.proofs.Common.{◌≡◌, ℕ, zero, suc, ◌<◌, ◌≤◌, true, false, List, [], ◌∷◌, length, get_or, Some, None, sym, refl, ap, ◌∙◌, inl, inr, ⊎_elim, arith}
 use Rattle.std.proofs.lemmas.Bool.{cases_order, both_ways}
 use Rattle.std.proofs.lemmas.Bool.Decides.{nat_tests}
 use Rattle.graph.specs.Reach.{Within, Least}
 use Rattle.process.specs.declared.parts.Arrow.{Arrow}
 use Rattle.process.specs.Stored.{no_arrow, Leads, Before, Rising}
-use Rattle.process.specs.Reading.{before}
 use Rattle.process.specs.Shape.{Sorted, hits}
 use Rattle.process.proofs.Checks.{before_true, before_holds}
 

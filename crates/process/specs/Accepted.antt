@@ -1,5 +1,5 @@
 -- What reading a stored process answers, in the words of the stored form. Assumes nothing.
-use Rattle.std.specs.Prelude.{◌≡◌, ℕ, Bool, true, false, ◌&&◌, List, IfOk, IfErr, Ok, Err, vec_items, Result, MatchResult, nat_le}
+use Rattle.std.specs.Prelude.{◌≡◌, ℕ, Bool, true, false, ◌&&◌, List, IfOk, IfErr, Err, vec_items, Result, MatchResult, nat_le}
 use Rattle.values.specs.declared.Cause.TheVariants.{ShortMemory}
 use Rattle.values.specs.declared.Layer.TheVariants.{Reader}
 use Rattle.values.specs.declared.Fault.{Fault}

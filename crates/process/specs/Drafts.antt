@@ -3,7 +3,7 @@ use Rattle.std.specs.Prelude.{◌≡◌, ℕ, ◌+◌, ◌≤◌, List, [], ◌�
 use Rattle.process.specs.declared.parts.Step.{Step}
 use Rattle.process.specs.declared.parts.Arrow.{Arrow}
 use Rattle.process.specs.declared.tables.Draft.{Draft}
-use Rattle.process.specs.Stored.{Named, Plan, Sound}
+use Rattle.process.specs.Stored.{Plan, Sound}
 use Rattle.process.specs.Reading.{Record, header, step, arrow, Scan}
 
 -- the steps without their names, and the arrows

@@ -1,5 +1,5 @@
 -- A small competition: enter, pay the fee and hand in the card, publish, check. Assumes nothing.
-use Rattle.std.specs.Prelude.{ℕ, Bool, true, false, List, [], ◌∷◌, codes}
+use Rattle.std.specs.Prelude.{ℕ, true, false, List, [], ◌∷◌, codes}
 use Rattle.values.specs.declared.Flow.TheVariants.{One, All}
 use Rattle.values.specs.declared.Kind.TheVariants.{Score, Fee}
 use Rattle.process.specs.declared.parts.Arrow.{Arrow}

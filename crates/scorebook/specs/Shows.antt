@@ -1,6 +1,6 @@
 -- What a book shows after a turn, and after one record more. Assumes nothing.
-use Rattle.std.specs.Prelude.{◌≡◌, ℕ, ◌+◌, ◌-◌, ◌<◌, ◌≤◌, Bool, true, false, cond, not, ◌&&◌, ◌⊎◌, List, [], ◌∷◌, ◌++◌, is_some, Some, None, Ok, Option, ◌==◌, refl}
-use Rattle.std.proofs.Common.{sym, ap, ap₂, ◌∙◌, inl, inr, ⊎_elim, arith}
+use Rattle.std.specs.Prelude.{◌≡◌, ℕ, ◌-◌, ◌<◌, true, false, cond, not, ◌&&◌, List, [], ◌∷◌, ◌++◌, is_some, Some, None, Ok, Option, ◌==◌, refl}
+use Rattle.std.proofs.Common.{sym, ap, ap₂, ◌∙◌, ⊎_elim, arith}
 use Rattle.std.proofs.lemmas.Bool.Decides.{nat_tests}
 use Rattle.std.proofs.lemmas.Bool.{cases_Bool, and_from}
 use Rattle.values.specs.Checks.{first_fault, answer, after}
@@ -9,9 +9,9 @@ use Rattle.values.specs.declared.Entry.{Entry}
 use Rattle.values.specs.declared.Kind.{Kind}
 use Rattle.values.specs.declared.Kind.TheVariants.{Score}
 use Rattle.values.specs.declared.HostState.{HostState}
-use Rattle.values.specs.declared.HostState.TheVariants.{Unknown, Open}
-use Rattle.host.specs.Keys.{RowKey, same_row, is_row}
-use Rattle.host.specs.View.{View, Begins, Moves, Sound, is_unknown, begin_checks, begun, move_checks, moved}
+use Rattle.values.specs.declared.HostState.TheVariants.{Unknown}
+use Rattle.host.specs.Keys.{RowKey, is_row}
+use Rattle.host.specs.View.{Begins, Moves, Sound, is_unknown, begin_checks, begun, move_checks, moved}
 use Rattle.host.proofs.Ext.{view_ext}
 use Rattle.scorebook.specs.declared.records.Record.{Record}
 use Rattle.scorebook.specs.Records.{find_in, turned, opened, state_in, entry_in, well, booked}

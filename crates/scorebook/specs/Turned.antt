@@ -1,11 +1,10 @@
 -- One record turned, and one record more, among a book's records. Assumes nothing.
-use Rattle.std.specs.Prelude.{◌≡◌, ℕ, suc, ◌+◌, ◌<◌, ◌≤◌, Bool, true, false, cond, not, ◌&&◌, List, [], ◌∷◌, ◌++◌, length, get_or, take, set, is_some, Some, None, slice_index_or, slice_set, refl}
-use Rattle.std.proofs.Common.{sym, ap, ◌∙◌, arith}
+use Rattle.std.specs.Prelude.{◌≡◌, ℕ, ◌<◌, ◌≤◌, true, false, cond, not, List, [], ◌∷◌, ◌++◌, length, get_or, take, set, is_some, Some, None, slice_index_or, slice_set, refl}
+use Rattle.std.proofs.Common.{sym, ◌∙◌, arith}
 use Rattle.std.proofs.Math.Seq.{take-set-lt}
 use Rattle.std.proofs.lemmas.List.{get_or-take, length-take-le}
 use Rattle.std.proofs.lemmas.Bool.Decides.{nat_tests}
 use Rattle.values.specs.declared.HostState.{HostState}
-use Rattle.values.specs.declared.HostState.TheVariants.{Unknown}
 use Rattle.host.specs.Keys.{RowKey, same_row, is_row}
 use Rattle.host.specs.View.{is_unknown}
 use Rattle.scorebook.specs.declared.records.Record.{Record}

@@ -66,7 +66,7 @@ impl Ledger {
 impl Host for Ledger {
     ghost view = { ledger_view };
 
-    ghost sound = { first_of (Prim.search rules, Prim.grind (arith, Self.row.coded.inj)) };
+    ghost sound = { Prim.search rules };
 
     fn begin(&mut self, row: RowKey, entry: Entry) -> Result<(), Fault>
         ensures does { Begins (ledger_view self.old) row entry result (ledger_view self.new) }

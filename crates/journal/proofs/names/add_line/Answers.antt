@@ -1,5 +1,5 @@
 -- A step's line is pushed.
-use Rattle.std.proofs.Common.{◌≡◌, [], ◌∷◌, ◌++◌, map, vec_items, sym, ap, ◌∙◌}
+use Rattle.std.proofs.Common.{[], ◌∷◌, ◌++◌, map, vec_items, sym, ap, ◌∙◌}
 use Rattle.std.proofs.lemmas.List.{map_push}
 use Rattle.process.specs.Items.{record_of}
 use Rattle.journal.specs.Names.{line_shown, line_before}

@@ -1,5 +1,5 @@
 -- What is told is what the text of the journal says.
-use Rattle.std.proofs.Common.{◌≡◌, IfOk, Result, sym, ap, ◌∙◌, subst}
+use Rattle.std.proofs.Common.{IfOk, Result, sym, ap, ◌∙◌, subst}
 use Rattle.journal.specs.declared.Unreadable.{Unreadable}
 use Rattle.journal.specs.Run.{Ran}
 use Rattle.journal.specs.Settings.{Contents, told}

@@ -1,6 +1,5 @@
 -- Each turn pushes the byte of two digits.
-use Rattle.std.proofs.Common.{◌≡◌, ◌+◌, ◌*◌, ◌++◌, drop, vec_items, sym, ap, subst, arith}
-use Rattle.journal.specs.Text.{paired}
+use Rattle.std.proofs.Common.{vec_items, arith}
 use Rattle.journal.proofs.Hex.{paired_more, paired_all}
 use Rattle.journal.proofs.text.decode.Goals as goal
 

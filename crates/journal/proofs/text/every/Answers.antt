@@ -1,4 +1,4 @@
-use Rattle.std.proofs.Common.{◌≡◌, eqb, length, ap, ◌∙◌}
+use Rattle.std.proofs.Common.{eqb, length, ap, ◌∙◌}
 use Rattle.journal.specs.Text.{in_class}
 use Rattle.journal.proofs.Bytes.{every_leading}
 use Rattle.journal.proofs.text.every.Goals as goal

@@ -1,5 +1,5 @@
 -- Two digits below 16 make a byte.
-use Rattle.std.proofs.Common.{◌≡◌, unwrap_or, ap, ◌∙◌, arith}
+use Rattle.std.proofs.Common.{unwrap_or, ap, ◌∙◌, arith}
 use Rattle.journal.proofs.Hex.{nibble_small}
 use Rattle.journal.proofs.text.pair.Goals as goal
 

@@ -1,5 +1,5 @@
 -- One arrow more, and the end of the arrows.
-use Rattle.std.proofs.Common.{◌≡◌, ◌+◌, Bool, eqb, count_by, sym, ap, ◌∙◌, arith}
+use Rattle.std.proofs.Common.{◌+◌, Bool, eqb, sym, ap, ◌∙◌, arith}
 use Rattle.std.proofs.lemmas.List.Sums.{count_by_more_yes, count_by_more_no}
 use Rattle.std.proofs.lemmas.Bool.Decides.{nat_tests}
 use Rattle.std.proofs.lemmas.List.{take_all}

@@ -1,5 +1,5 @@
 -- The first hit, the arrows past the step, one arrow more, and the end.
-use Rattle.std.proofs.Common.{◌≡◌, ℕ, length, sym, ◌∙◌, subst, arith, below_more}
+use Rattle.std.proofs.Common.{◌≡◌, length, sym, subst, arith, below_more}
 use Rattle.process.proofs.Targets.{Missed, none_hit, none_past, first_hit}
 use Rattle.process.proofs.shape.least_target.Goals as goal
 

@@ -1,5 +1,5 @@
 -- The search has room, so its marks are exactly the steps reached.
-use Rattle.std.proofs.Common.{◌≡◌, true, length, is_ok, sym, ◌∙◌, arith}
+use Rattle.std.proofs.Common.{◌≡◌, true, length, is_ok, ◌∙◌, arith}
 use Rattle.std.proofs.lemmas.Bool.Decides.{nat_tests}
 use Rattle.graph.specs.Held.{held}
 use Rattle.graph.specs.Reach.{roomy}

@@ -1,5 +1,5 @@
 -- One line more: there is room for it, and all that the ledger keeps true stays so.
-use Rattle.std.proofs.Common.{◌≡◌, ℕ, ◌+◌, ◌-◌, ◌*◌, ◌/◌, ◌<◌, ◌≤◌, min, true, false, cond, List, [], ◌∷◌, ◌++◌, length, take, set, pos, ◌+ℤ◌, ◌≤ℤ◌, is_some, sym, refl, ap, ◌∙◌, subst, ap₂, arith}
+use Rattle.std.proofs.Common.{◌≡◌, ◌+◌, ◌-◌, ◌*◌, ◌/◌, ◌<◌, ◌≤◌, min, false, cond, [], ◌∷◌, ◌++◌, length, take, set, pos, ◌+ℤ◌, ◌≤ℤ◌, is_some, sym, ap, ◌∙◌, subst, arith}
 use Rattle.std.proofs.lemmas.List.{take_more_set, drop-set-lt, drop-drop}
 use Rattle.host.specs.Keys.{RowKey, is_row}
 use Rattle.ledger.specs.Book.{lines_of, rows_in}

@@ -1,5 +1,5 @@
 -- The facts of an accepted process are those of a sound one.
-use Rattle.std.proofs.Common.{◌≡◌, ℕ, ◌≤◌, List, length, vec_items, vec_len, sym, ◌∙◌, subst, arith}
+use Rattle.std.proofs.Common.{ℕ, List, length, vec_items, vec_len, sym, subst, arith}
 use Rattle.graph.specs.Reach.{Within}
 use Rattle.process.specs.declared.parts.Arrow.{Arrow}
 use Rattle.process.specs.Stored.{All, Placed, Rising, no_arrow, Fine}

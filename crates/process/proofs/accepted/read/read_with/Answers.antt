@@ -1,12 +1,11 @@
 -- Each way out is the one answer for the bytes.
-use Rattle.std.proofs.Common.{◌≡◌, length, Some, None, Ok, Err, vec_len, Result, sym, refl, ap, ◌∙◌, subst, arith, rules}
+use Rattle.std.proofs.Common.{Some, None, Err, Result, sym, refl, ◌∙◌, subst, arith, rules}
 use Rattle.std.proofs.lemmas.Result.{err_from_is_err_and}
 use Rattle.values.specs.declared.Fault.{Fault}
 use Rattle.process.specs.declared.accepted.Process.{Process}
-use Rattle.process.specs.Reading.{Answer, faulty, unfit, accepted}
+use Rattle.process.specs.Reading.{faulty, unfit, accepted}
 use Rattle.process.specs.Stored.{no_arrow}
 use Rattle.process.specs.Shape.{Sorted}
-use Rattle.process.specs.Accepted.{Reading}
 use Rattle.process.proofs.Targets.{rising_sorted}
 use Rattle.process.proofs.Outcomes.{scan_outcome}
 use Rattle.process.specs.Front.{nothing_read}

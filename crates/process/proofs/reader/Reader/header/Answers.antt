@@ -1,5 +1,5 @@
 -- The exits of the header record: a fault as it came, or the record handed out.
-use Rattle.std.proofs.Common.{◌≡◌, ℕ, ◌+◌, true, drop, Some, sym, refl, ap, ◌∙◌}
+use Rattle.std.proofs.Common.{◌≡◌, ℕ, ◌+◌, true, Some, ap}
 use Rattle.std.proofs.lemmas.Result.{err_from_is_err_and}
 use Rattle.process.specs.declared.cursor.Expected.TheVariants.{HeaderRecord}
 use Rattle.process.specs.Reading.{header, header_at}

@@ -1,5 +1,5 @@
 -- The exits of the step record: a fault as it came, or the record handed out.
-use Rattle.std.proofs.Common.{◌≡◌, ℕ, ◌+◌, ◌-◌, true, take, drop, Some, sym, refl, ap, ◌∙◌, arith}
+use Rattle.std.proofs.Common.{◌≡◌, ℕ, ◌+◌, ◌-◌, take, drop, Some, ap, ◌∙◌, arith}
 use Rattle.std.proofs.lemmas.Result.{err_from_is_err_and}
 use Rattle.process.specs.declared.cursor.Expected.TheVariants.{StepRecord}
 use Rattle.process.specs.declared.parts.Step.{Step}

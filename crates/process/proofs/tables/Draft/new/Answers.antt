@@ -1,5 +1,5 @@
 -- Tables of length 0 hold nothing.
-use Rattle.std.proofs.Common.{◌≡◌, ℕ, List, [], length, vec_items, vec_len, sym, ◌∙◌, arith}
+use Rattle.std.proofs.Common.{vec_items, sym, ◌∙◌}
 use Rattle.process.proofs.Rooms.{empty_if}
 use Rattle.process.proofs.tables.Draft.new.Goals as goal
 

@@ -1,5 +1,5 @@
 -- The loop over the records is the scan.
-use Rattle.std.proofs.Common.{◌≡◌, None, Ok, Err, Option, Result, sym, refl, ap, ◌∙◌, subst, arith, MatchResult}
+use Rattle.std.proofs.Common.{◌≡◌, None, Ok, Err, Option, Result, sym, ap, ◌∙◌, subst, MatchResult}
 use Rattle.std.proofs.lemmas.Result.{err_from_is_err_and}
 use Rattle.values.specs.declared.Fault.{Fault}
 use Rattle.process.specs.declared.parts.Item.{Item}

@@ -1,5 +1,5 @@
 -- A row in the state that the move wants is turned.
-use Rattle.std.proofs.Common.{◌≡◌, sym, refl, ap, ◌∙◌}
+use Rattle.std.proofs.Common.{sym, ap, ◌∙◌}
 use Rattle.values.specs.Checks.{after}
 use Rattle.values.specs.Numbers.{same_host_state}
 use Rattle.scorebook.specs.Book.{records_of, free_of}

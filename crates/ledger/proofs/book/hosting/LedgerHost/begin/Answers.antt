@@ -1,11 +1,11 @@
 -- An unknown row for which there is room gets a hold line; any other begin is declined.
-use Rattle.std.proofs.Common.{◌≡◌, ◌<◌, true, false, None, sym, refl, ap, ◌∙◌, subst, arith}
+use Rattle.std.proofs.Common.{◌≡◌, ◌<◌, None, sym, refl, ap, ◌∙◌, subst, arith}
 use Rattle.std.proofs.lemmas.Bool.{and_from}
 use Rattle.values.specs.declared.Cause.TheVariants.{OtherState, NoRoom}
 use Rattle.host.specs.View.{is_unknown}
 use Rattle.host.proofs.Checks.{fault_at, begin_declined, begin_full, begin_passes}
 use Rattle.ledger.specs.Book.{ledger_view, lines_of, free_of}
-use Rattle.ledger.specs.Lines.{last_of, state_by, Follows, hold_line}
+use Rattle.ledger.specs.Lines.{last_of, Follows, hold_line}
 use Rattle.ledger.proofs.Shows.{none_unknown, fee_room}
 use Rattle.ledger.proofs.Written.{and_left, and_right, hold_declined, hold_accepted}
 use Rattle.ledger.proofs.book.hosting.LedgerHost.begin.Goals as goal

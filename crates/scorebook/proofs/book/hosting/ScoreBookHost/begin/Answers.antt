@@ -1,5 +1,5 @@
 -- An unknown row for which there is room gets the next record.
-use Rattle.std.proofs.Common.{◌≡◌, [], ◌∷◌, ◌++◌, drop, sym, refl, ap, ◌∙◌}
+use Rattle.std.proofs.Common.{[], ◌∷◌, ◌++◌, drop, sym, refl, ap, ◌∙◌}
 use Rattle.values.specs.Checks.{after}
 use Rattle.host.specs.View.{is_unknown}
 use Rattle.scorebook.specs.Book.{records_of, rest_of, free_of}
