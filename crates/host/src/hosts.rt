@@ -59,6 +59,6 @@ pub trait Controls: Host {
         ensures answers { result ≡ shuts self.old command };
 }
 
-/// The command of a host that nothing shuts: there is none.
+/// The only command of a host that nothing shuts or opens: it changes nothing.
 #[derive(Drop)]
-pub enum NoCommand {}
+pub struct NoCommand;

@@ -142,7 +142,7 @@ impl Controls for Ledger {
 
     ghost shuts = { λ _ _. false };
 
-    fn control(&mut self, command: NoCommand) -> bool {
-        match command {}
+    fn control(&mut self, _command: NoCommand) -> bool {
+        false
     }
 }
