@@ -1,10 +1,9 @@
 -- What the walks of an abort mark. Assumes nothing.
-use Rattle.std.proofs.Common.{◌≡◌, ℕ, ◌≤◌, Bool, true, false, ◌&&◌, List, length, get_or, is_ok, Ok, Err, Decides, Result, sym, refl, ap, ◌∙◌, inl, inr, arith, MatchResult}
+use Rattle.std.proofs.Common.{◌≡◌, ℕ, ◌≤◌, Bool, true, List, length, get_or, is_ok, Ok, Err, Decides, Result, sym, refl, ap, ◌∙◌, inl, inr}
 use borrow.Author.Tests.{clash}
 use Rattle.std.proofs.lemmas.Bool.{cases_Bool, and_left, and_from}
 use Rattle.values.specs.Numbers.{same_state}
 use Rattle.values.specs.declared.Mode.TheVariants.{Complete}
-use Rattle.values.specs.declared.RowState.{RowState}
 use Rattle.values.specs.declared.RowState.TheVariants.{Absent, Committed}
 use Rattle.graph.specs.Column.{marked, Kept}
 use Rattle.graph.specs.Reach.{Within, Start, Reached, start, step, Explored}

@@ -1,10 +1,10 @@
 -- Which numbers the arrows of a table join, and the same of the arrows that are left of them. Assumes nothing.
-use Rattle.std.proofs.Common.{◌≡◌, ℕ, ◌<◌, ◌≤◌, Bool, true, false, cond, not, ◌&&◌, eqb, List, [], ◌∷◌, length, get_or, Decides, filter, Option, sym, refl, ap, ◌∙◌, inl, inr, arith}
+use Rattle.std.proofs.Common.{◌≡◌, ℕ, ◌<◌, Bool, true, false, cond, not, ◌&&◌, eqb, List, [], ◌∷◌, length, filter, Option, sym, refl, ap, ◌∙◌, inl, inr, arith}
 use borrow.Author.Tests.{clash}
 use Rattle.std.specs.List.{HoldsAt, IsAnyAnswer}
 use Rattle.std.proofs.lemmas.List.Elements.{contains_decides}
 use Rattle.std.proofs.lemmas.List.{get_or_default}
-use Rattle.std.proofs.lemmas.Bool.{cases_lt, cases_eq, cases_Bool, eq-eqb, ne_eqb, and_parts}
+use Rattle.std.proofs.lemmas.Bool.{cases_lt, cases_eq, eq-eqb, ne_eqb, and_parts}
 use Rattle.std.proofs.lemmas.Bool.Decides.{same_from_decides, Decides-eqb}
 use Rattle.graph.specs.Reach.{Within, Least}
 use Rattle.model.specs.Chart.{Chart}
@@ -24,7 +24,7 @@ use Rattle.rows.proofs.Lists.{any_found}
 -- ── lists ──
 
 -- what `contains` answers
-pub contains_has : (xs : List ℕ) (x : ℕ) (r : Bool) → IsAnyAnswer (λ y t. Decides t (y ≡ x)) xs r → r ≡ has x xs
+pub contains_has : (xs : List ℕ) (x : ℕ) (r : Bool) → IsAnyAnswer (λ y t. eqb y x ≡ t) xs r → r ≡ has x xs
 contains_has xs x r h = same_from_decides r (has x xs) (contains_decides eqb Decides-eqb xs x r h) (placed, found)
   where
     placed : has x xs ≡ true → (k : ℕ) × (k < length xs) × HoldsAt (λ y. y ≡ x) xs k

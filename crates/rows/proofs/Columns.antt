@@ -1,8 +1,8 @@
 -- A row read, written and added, as columns. Assumes nothing.
-use Rattle.std.proofs.Common.{◌≡◌, ℕ, ◌+◌, ◌-◌, ◌<◌, ◌≤◌, Bool, true, false, cond, eqb, ◌⊎◌, List, [], ◌∷◌, ◌++◌, length, get_or, set, sym, refl, ap, ◌∙◌, subst, ap₂, inl, inr, ⊎_elim, arith, length-set, get_or-set_other, get_or-set_same}
+use Rattle.std.proofs.Common.{◌≡◌, ℕ, ◌+◌, ◌-◌, ◌<◌, ◌≤◌, Bool, true, false, cond, eqb, ◌⊎◌, List, [], ◌∷◌, ◌++◌, length, get_or, set, sym, refl, ap, ◌∙◌, subst, inl, inr, ⊎_elim, arith, length-set, get_or-set_other, get_or-set_same}
 use mathlib.Core.Path.{fun_ext}
 use Rattle.std.proofs.lemmas.Bool.Decides.{nat_tests, eqb_tells, leb_tells}
-use Rattle.std.proofs.lemmas.List.{get_or_past, get_or_push, get_or_append_left, get_or_default, length-append, length_push}
+use Rattle.std.proofs.lemmas.List.{get_or_past, get_or_push, get_or_append_left, length-append, length_push}
 use Rattle.model.specs.Search.{at_put}
 use Rattle.rows.specs.declared.row.Row.{Row}
 use Rattle.rows.proofs.Numbered.{past, inside}
@@ -10,10 +10,10 @@ use Rattle.values.specs.declared.Entry.{Entry}
 use Rattle.values.specs.declared.RowState.{RowState}
 use Rattle.values.specs.declared.RowState.TheVariants.{Absent, Running}
 use Rattle.values.specs.Numbers.{same_state}
-use Rattle.model.specs.Search.{has, any}
+use Rattle.model.specs.Search.{has}
 use Rattle.model.specs.Rows.{marked, added}
 use Rattle.model.specs.Sheets.{Lower}
-use Rattle.model.proofs.Basics.{any_in, put_all}
+use Rattle.model.proofs.Basics.{put_all}
 use Rattle.std.proofs.lemmas.Bool.{eqb-true}
 use Rattle.rows.specs.declared.row.Predecessors.{Predecessors}
 use Rattle.rows.specs.Columns.{no_row, row_at, listed, preds_of, columns, Positive}

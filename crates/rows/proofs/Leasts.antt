@@ -1,5 +1,5 @@
 -- The least number above another that has something, found one by one. Assumes nothing.
-use Rattle.std.proofs.Common.{◌≡◌, ℕ, ◌+◌, ◌<◌, ◌≤◌, min, Bool, true, false, cond, ◌||◌, eqb, leb, ◌⊎◌, List, length, get_or, take, Some, None, Option, sym, refl, ◌∙◌, subst, inl, inr, ⊎_elim, arith}
+use Rattle.std.proofs.Common.{◌≡◌, ℕ, ◌+◌, ◌<◌, min, true, ◌||◌, eqb, leb, ◌⊎◌, List, length, get_or, take, Some, None, Option, sym, refl, ◌∙◌, subst, inl, inr, ⊎_elim, arith}
 use Rattle.std.proofs.lemmas.Bool.{cond_both, leb-true, leb-false, cases_lt, or_cases, or_left, or_right, eqb-true, eq-eqb}
 use Rattle.graph.specs.Reach.{Least}
 use Rattle.model.specs.Search.{has}

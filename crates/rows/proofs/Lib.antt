@@ -1,10 +1,7 @@
 pub mod Aborts
 pub mod Arrows
-<<<<<<< HEAD
-pub mod Clearing
-=======
 pub mod Below
->>>>>>> 3f908d0b7795b4114d6e01cad5b4219be18e26c5
+pub mod Clearing
 pub mod Columns
 pub mod Falls
 pub mod Fronts

@@ -1,8 +1,8 @@
 -- What a walk along a table's arrows marks, in the words of the model. Assumes nothing.
-use Rattle.std.proofs.Common.{◌≡◌, ℕ, ◌<◌, ◌≤◌, Bool, true, false, cond, ◌||◌, eqb, ◌⊎◌, List, [], ◌∷◌, length, get_or, Decides, sym, refl, ap, ◌∙◌, subst, inl, inr, ⊎_elim, arith}
+use Rattle.std.proofs.Common.{◌≡◌, ℕ, ◌≤◌, Bool, true, ◌||◌, eqb, ◌⊎◌, List, Decides, sym, inl, inr, ⊎_elim}
 use Rattle.std.proofs.lemmas.Bool.{or_cases, or_left, or_right, eq-eqb}
 use Rattle.std.proofs.lemmas.Bool.Decides.{same_from_decides, Decides-like}
-use Rattle.graph.specs.Column.{marked, Marked}
+use Rattle.graph.specs.Column.{marked}
 use Rattle.graph.specs.Reach.{Within, Start, Reached, start, step, Explored}
 use Rattle.model.specs.Rollback.{After, next, further, within}
 use Rattle.model.specs.Search.{has}

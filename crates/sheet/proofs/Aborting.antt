@@ -1,6 +1,5 @@
 -- Running rows dropped at the host, and the rows that fall. Assumes nothing.
-use Rattle.std.proofs.Common.{◌≡◌, ℕ, zero, suc, ◌+◌, ◌<◌, ◌≤◌, Bool, true, false, cond, not, ◌&&◌, ◌||◌, eqb, ltb, leb, List, [], ◌∷◌, Some, None, Option, sym, refl, ap, ◌∙◌, subst, ap₂, add-one, arith}
-use mathlib.Core.Path.{fun_ext}
+use Rattle.std.proofs.Common.{◌≡◌, ℕ, zero, suc, ◌+◌, Bool, true, false, cond, not, ◌&&◌, [], ◌∷◌, None, Option, sym, refl, ap, ◌∙◌, ap₂, add-one, arith}
 use Rattle.std.specs.Option.{option_or}
 use Rattle.std.proofs.lemmas.Bool.{le-ltb}
 use Rattle.values.specs.Checks.{first_fault, bad}
@@ -14,7 +13,7 @@ use Rattle.host.specs.Keys.{key_of, is_row, place_of}
 use Rattle.host.specs.View.{View, move_checks, moved}
 use Rattle.model.specs.Search.{first_below}
 use Rattle.model.specs.Calls.{dropped_below}
-use Rattle.model.proofs.Hosts.{with_host_states, dropped_view}
+use Rattle.model.proofs.Hosts.{dropped_view}
 
 -- a search whose test needs something that does not hold
 pub none_found : (n : ℕ) (p : ℕ → Bool) → first_below n (λ k. false && p k) ≡ None

@@ -1,5 +1,5 @@
 -- A call that passes its own checks, and then asks the host. Assumes nothing.
-use Rattle.std.proofs.Common.{◌≡◌, ℕ, false, cond, List, [], ◌∷◌, ◌++◌, Some, None, Ok, Err, Option, Result, sym, refl, ap, ◌∙◌, subst, ap₂, arith}
+use Rattle.std.proofs.Common.{◌≡◌, ℕ, false, cond, List, [], ◌∷◌, ◌++◌, Some, None, Ok, Err, Option, Result, sym, refl, ap, ◌∙◌, ap₂, arith}
 use Rattle.values.specs.Checks.{first_fault, answer, after}
 use Rattle.values.specs.declared.Fault.{Fault}
 use Rattle.values.specs.declared.Mode.{Mode}

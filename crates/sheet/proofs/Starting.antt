@@ -1,18 +1,18 @@
 -- A row that may start can be added to the table. Assumes nothing.
-use Rattle.std.proofs.Common.{◌≡◌, ℕ, ◌+◌, ◌<◌, ◌≤◌, Bool, true, false, cond, not, ◌&&◌, ◌||◌, eqb, ltb, leb, List, [], ◌∷◌, ◌++◌, length, None, sym, refl, ap, ◌∙◌, inl, inr, arith}
+use Rattle.std.proofs.Common.{◌≡◌, ℕ, ◌+◌, ◌≤◌, Bool, true, false, cond, not, ◌&&◌, ◌||◌, eqb, ltb, leb, List, ◌++◌, length, None, ap, ◌∙◌, inl, inr, arith}
 use Rattle.std.proofs.lemmas.Bool.{and_parts, and_from, or_parts, not-false, eqb-true, leb-true, le-leb, lt-ltb, cases_Bool, both_ways, not_from_false, not_from_true}
 use Rattle.values.specs.declared.Cause.TheVariants.{NoSuch, WrongCount}
 use Rattle.values.specs.declared.Flow.{Flow}
 use Rattle.values.specs.declared.Flow.TheVariants.{One, All}
 use Rattle.values.specs.declared.Kind.{Kind}
 use Rattle.values.specs.declared.Layer.TheVariants.{Sheet as OfSheet}
-use Rattle.values.specs.declared.RowState.TheVariants.{Absent, Committed}
+use Rattle.values.specs.declared.RowState.TheVariants.{Absent}
 use Rattle.values.specs.Numbers.{same_state}
 use Rattle.host.specs.Keys.{key_of}
 use Rattle.host.specs.View.{View, begin_checks}
 use Rattle.model.specs.Chart.{Chart, step_at, has_step, arrows_into, by_flow, wanted}
-use Rattle.model.specs.Search.{any, has}
-use Rattle.model.specs.Rows.{Rows, added, any_live, is_row}
+use Rattle.model.specs.Search.{any}
+use Rattle.model.specs.Rows.{added, any_live, is_row}
 use Rattle.model.specs.Sheet.{Sheet, with_rows}
 use Rattle.model.specs.Calls.{lawful, start_checks, start_fault}
 use Rattle.model.proofs.Basics.{passes, passed_test, bad_none, any_out}

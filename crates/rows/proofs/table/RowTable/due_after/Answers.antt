@@ -1,7 +1,6 @@
-use Rattle.std.proofs.Common.{◌≡◌, Bool, true, false, not, ◌||◌, length, vec_items, sym, refl, ap, ◌∙◌}
+use Rattle.std.proofs.Common.{not, vec_items, sym, refl, ◌∙◌}
 use Rattle.std.proofs.lemmas.Bool.{or_left, or_right, not_from_false}
 use Rattle.graph.specs.Held.{held}
-use Rattle.graph.specs.Reach.{roomy}
 use Rattle.rows.specs.Marking.{due_above}
 use Rattle.rows.specs.Tables.{rows_of}
 use Rattle.rows.proofs.Later.{none_later, lowest_later}

@@ -1,4 +1,4 @@
-use Rattle.std.proofs.Common.{◌≡◌, ℕ, ◌≤◌, Bool, length, sym, refl, ap, ◌∙◌, arith}
+use Rattle.std.proofs.Common.{◌≡◌, ℕ, Bool, length, sym, ap, ◌∙◌, arith}
 use Rattle.graph.specs.Column.{marked}
 use Rattle.graph.specs.Held.{held}
 use Rattle.rows.specs.declared.row.Row.{Row}
@@ -10,13 +10,13 @@ invariant_of-self c =
     let t = c.args.self.now in
     let new = c.fall_all.new.rows in
     let mark : ℕ → Bool = marked (held c.args.marks.now) in
-    let long : length new.items ≡ length t.rows.items = sym new.ok.0 ∙ c.fall_all.ensures.len ∙ t.rows.ok.0 in (
-      lower_fell c.args.steps.now mark c.args.number t.rows.items new.items long c.fall_all.ensures.rows t.lower,
-      (
-        positive_fell c.args.steps.now mark c.args.number t.rows.items new.items long c.fall_all.ensures.rows t.positive,
-        (omega (arith, c.fall_all.ensures.len, t.few), (omega (arith, c.fall_all.ensures.capacity, t.reserved), tt)),
-      ),
-    )
+    let long : length new.items ≡ length t.rows.items = sym new.ok.0 ∙ c.fall_all.ensures.len ∙ t.rows.ok.0 in
+    record {
+      lower = lower_fell c.args.steps.now mark c.args.number t.rows.items new.items long c.fall_all.ensures.rows t.lower;
+      positive = positive_fell c.args.steps.now mark c.args.number t.rows.items new.items long c.fall_all.ensures.rows t.positive;
+      few = omega (arith, c.fall_all.ensures.len, t.few);
+      reserved = omega (arith, c.fall_all.ensures.capacity, t.reserved);
+    }
 
 pub returns : goal.returns
 returns c =

@@ -1,4 +1,4 @@
-use Rattle.std.proofs.Common.{◌≡◌, ℕ, List, vec_items, subst}
+use Rattle.std.proofs.Common.{ℕ, List, vec_items, subst}
 use Rattle.std.proofs.lemmas.Result.{MatchResult-weaker}
 use Rattle.graph.specs.Held.{held}
 use Rattle.graph.specs.Reach.{Start, Explored}

@@ -1,4 +1,4 @@
-use Rattle.std.proofs.Common.{◌≡◌, vec_items, arith}
+use Rattle.std.proofs.Common.{vec_items, arith}
 use Rattle.std.proofs.lemmas.Result.{MatchResult-weaker}
 use Rattle.graph.specs.Held.{held}
 use Rattle.rows.proofs.Aborts.{walk_keeps, all_marked}

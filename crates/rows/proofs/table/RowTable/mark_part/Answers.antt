@@ -1,4 +1,4 @@
-use Rattle.std.proofs.Common.{◌≡◌, ℕ, Bool, true, List, length, is_ok, vec_items, sym, ap, ◌∙◌, subst, ap₂, arith}
+use Rattle.std.proofs.Common.{◌≡◌, ℕ, true, List, length, is_ok, vec_items, sym, ◌∙◌, subst, ap₂, arith}
 use Rattle.process.proofs.Shapes.{at_ok}
 use Rattle.graph.specs.Held.{held}
 use Rattle.graph.specs.Reach.{Start, Explored, roomy}

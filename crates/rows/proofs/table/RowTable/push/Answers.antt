@@ -1,5 +1,5 @@
 -- One row added: it follows only rows that are there.
-use Rattle.std.proofs.Common.{◌≡◌, ℕ, ◌<◌, ◌≤◌, Bool, true, false, cond, not, ◌&&◌, ltb, leb, List, length, take, sym, ap, ◌∙◌, subst, inl, inr, arith, rules}
+use Rattle.std.proofs.Common.{◌≡◌, ℕ, ◌<◌, ◌≤◌, true, false, not, ◌&&◌, ltb, leb, List, length, take, sym, ap, ◌∙◌, subst, inl, inr, arith}
 use Rattle.std.proofs.lemmas.List.{take_all}
 use Rattle.std.proofs.lemmas.Bool.{and_parts, leb-true, ltb-true, both_ways, not-true, cases_Bool, not_from_false}
 use Rattle.model.specs.Search.{any, has}
@@ -48,15 +48,15 @@ invariant_of-self c =
     let fs = c.args.predecessors.now in
     let f = fitting rows fs (sym c.if-not-fits.ensures) in
     let p = c.push_reserved.ensures in
-    let e = all_kept fs c.new.result f.few c.new.ensures in (
-      subst (λ (xs : List Row). Lower (preds_of xs)) (sym p.items)
-          (lower_added rows c.args.step c.new.result fs c.args.entry e s.lower (λ x m. (f.inside x m).1)),
-      (
-        subst (λ (xs : List Row). Positive (preds_of xs)) (sym p.items)
-            (positive_added rows c.args.step c.new.result fs c.args.entry e s.positive (λ x m. (f.inside x m).0)),
-        (omega (arith, p.len, f.place, s.rows.ok.0), (omega (arith, p.capacity, s.reserved), tt)),
-      ),
-    )
+    let e = all_kept fs c.new.result f.few c.new.ensures in
+    record {
+      lower = subst (λ (xs : List Row). Lower (preds_of xs)) (sym p.items)
+          (lower_added rows c.args.step c.new.result fs c.args.entry e s.lower (λ x m. (f.inside x m).1));
+      positive = subst (λ (xs : List Row). Positive (preds_of xs)) (sym p.items)
+          (positive_added rows c.args.step c.new.result fs c.args.entry e s.positive (λ x m. (f.inside x m).0));
+      few = omega (arith, p.len, f.place, s.rows.ok.0);
+      reserved = omega (arith, p.capacity, s.reserved);
+    }
 
 pub returns : goal.returns
 returns c =

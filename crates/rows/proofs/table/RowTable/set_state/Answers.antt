@@ -1,5 +1,5 @@
 -- One row's state written: it is a row, since it is not absent.
-use Rattle.std.proofs.Common.{◌≡◌, ◌-◌, ◌<◌, ◌≤◌, Bool, false, cond, length, vec_items, sym, refl, ap, ◌∙◌, arith}
+use Rattle.std.proofs.Common.{◌≡◌, false, cond, sym, ap, ◌∙◌, arith}
 use Rattle.values.specs.Numbers.{same_state}
 use Rattle.values.specs.declared.RowState.TheVariants.{Absent}
 use Rattle.model.specs.Rows.{marked}
@@ -24,7 +24,12 @@ invariant_of-self c =
     ap (λ s. same_state s Absent) (sym c.state.ensures) ∙ sym c.if-is.ensures in
     let w = known_within rows k here in
     let is = row_inside rows k _ w.0 w.1 c.index_mut.ensures.value in
-    (lower_marked rows k _ c.args.to w.0 w.1 is s.lower, (positive_marked rows k _ c.args.to w.0 w.1 is s.positive, (s.few, (s.reserved, tt))))
+    record {
+      lower = lower_marked rows k _ c.args.to w.0 w.1 is s.lower;
+      positive = positive_marked rows k _ c.args.to w.0 w.1 is s.positive;
+      few = s.few;
+      reserved = s.reserved;
+    }
 
 pub returns : goal.returns
 returns c =

@@ -1,4 +1,4 @@
-use Rattle.std.proofs.Common.{◌≡◌, ℕ, ◌<◌, ◌≤◌, Bool, not, length, take, vec_items, filter, sym, ap, ◌∙◌, ap₂, arith, length-set}
+use Rattle.std.proofs.Common.{ℕ, ◌<◌, ◌≤◌, Bool, not, length, take, vec_items, filter, sym, ap, ◌∙◌, ap₂, arith, length-set}
 use Rattle.std.proofs.lemmas.Bool.{not_from_true, not_from_false}
 use Rattle.model.specs.Rows.{is_savepoint}
 use Rattle.rows.specs.Columns.{row_at}
@@ -13,8 +13,8 @@ bounds-numbers-count c =
     let rows = vec_items c.args.self.now.rows in
     omega (arith, listed_few (row_at rows c.args.row).predecessors, ap length c.predecessors-w-items.ensures)
 
-pub offset-bounds-numbers-count : goal.offset-bounds-numbers-count
-offset-bounds-numbers-count c = omega (arith, bounds-numbers-count c)
+pub offset_bounds-numbers-count : goal.offset_bounds-numbers-count
+offset_bounds-numbers-count c = omega (arith, bounds-numbers-count c)
 
 pub overflow_add-count : goal.overflow_add-count
 overflow_add-count c = omega (arith, bounds-numbers-count c)

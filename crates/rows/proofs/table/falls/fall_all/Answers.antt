@@ -1,4 +1,4 @@
-use Rattle.std.proofs.Common.{◌≡◌, ℕ, ◌+◌, ◌<◌, Bool, length, set, sym, refl, ap, ◌∙◌, ap₂, arith}
+use Rattle.std.proofs.Common.{ℕ, ◌<◌, Bool, length, set, refl, ap, ◌∙◌, arith}
 use Rattle.graph.specs.Column.{marked}
 use Rattle.graph.specs.Held.{held}
 use Rattle.rows.specs.declared.row.Row.{Row}

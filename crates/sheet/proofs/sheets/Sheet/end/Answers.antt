@@ -1,7 +1,6 @@
 -- A running row is committed at the host, and marked.
-use Rattle.std.proofs.Common.{◌≡◌, Ok, Err, sym, refl, ◌∙◌, subst, rules}
+use Rattle.std.proofs.Common.{◌≡◌, Err, sym, refl, ◌∙◌, subst, rules}
 use mathlib.Core.Logic.{∥∥₁_map}
-use Rattle.values.specs.Checks.{first_fault}
 use Rattle.values.specs.declared.HostState.TheVariants.{Open, Standing}
 use Rattle.values.specs.declared.RowState.TheVariants.{Running, Committed}
 use Rattle.host.specs.Keys.{key_of}
@@ -52,11 +51,11 @@ invariant_of-self g c =
     let none = none_declines (end_checks s k) (move_checks Open v (key_of k)) c.in_ok-may_end.ensures b.answers in
     let is = other_rows c.args.self.now.table c.set_state.new.self _ _ _ _ _
     (c.set_state.ensures.rows ∙ put_into s.rows k Running Committed (end_running s v k none) refl)
-    c.set_state.ensures.rolled in (
-      ∥∥₁_map c.args.self.now.kept
-          (λ kept. subst Kept (sym is) (on_end (chart_of c.args.self.now) s v kept k none)),
-      tt,
-    )
+    c.set_state.ensures.rolled in
+    record {
+      kept = ∥∥₁_map c.args.self.now.kept
+          (λ kept. subst Kept (sym is) (on_end (chart_of c.args.self.now) s v kept k none));
+    }
 
 pub returns : goal.returns
 returns g c =

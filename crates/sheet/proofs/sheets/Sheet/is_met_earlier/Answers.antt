@@ -1,4 +1,4 @@
-use Rattle.std.proofs.Common.{◌≡◌, ℕ, Bool, eqb, get_or, sym, ◌∙◌}
+use Rattle.std.proofs.Common.{ℕ, Bool, eqb, get_or, sym, ◌∙◌}
 use Rattle.std.proofs.lemmas.Bool.{eq-eqb, ne_eqb}
 use Rattle.rows.proofs.Numbered.{any_below_more, any_below_found}
 use Rattle.sheet.specs.SheetOf.{sheet_of}

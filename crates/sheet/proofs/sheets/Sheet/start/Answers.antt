@@ -1,5 +1,5 @@
 -- A row is begun at the host, and added.
-use Rattle.std.proofs.Common.{◌≡◌, ◌+◌, Ok, Err, sym, refl, ap, ◌∙◌, subst, rules}
+use Rattle.std.proofs.Common.{◌≡◌, ◌+◌, Ok, Err, sym, refl, ap, subst, rules}
 use mathlib.Core.Logic.{∥∥₁_map}
 use Rattle.host.specs.Keys.{key_of}
 use Rattle.host.specs.View.{begin_checks, begun}
@@ -10,7 +10,7 @@ use Rattle.model.specs.Sheets.{Kept}
 use Rattle.model.specs.Calls.{lawful, start_checks}
 use Rattle.model.proofs.Kept.{on_start}
 use Rattle.sheet.specs.SheetOf.{sheet_of, chart_of}
-use Rattle.sheet.proofs.Comings.{own_declines, host_declines, none_declines, both_accept, other_rows}
+use Rattle.sheet.proofs.Comings.{own_declines, host_declines, none_declines, both_accept}
 use Rattle.sheet.proofs.Starting.{pushed}
 use Rattle.sheet.proofs.sheets.Sheet.start.Goals as goal
 
@@ -62,7 +62,7 @@ invariant_of-self g c =
     c.in_ok-may_start.ensures b.answers in
     let is = pushed c.args.self.now v k fs e none c.push.new.self c.push.result
     c.push.ensures.fits c.push.ensures.rows c.push.ensures.rolled in
-    (∥∥₁_map c.args.self.now.kept (λ kept. subst Kept (sym is) (on_start d s v kept k fs e none)), tt)
+    record { kept = ∥∥₁_map c.args.self.now.kept (λ kept. subst Kept (sym is) (on_start d s v kept k fs e none)) }
 
 pub returns : goal.returns
 returns g c =

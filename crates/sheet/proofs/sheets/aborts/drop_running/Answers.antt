@@ -1,4 +1,4 @@
-use Rattle.std.proofs.Common.{◌≡◌, ℕ, ◌+◌, ◌≤◌, Bool, None, sym, refl, ap, ◌∙◌, arith}
+use Rattle.std.proofs.Common.{◌≡◌, ℕ, ◌+◌, Bool, sym, ap, ◌∙◌, arith}
 use Rattle.values.specs.Checks.{first_fault, after}
 use Rattle.values.specs.declared.HostState.TheVariants.{Open, Void}
 use Rattle.values.specs.declared.RowState.TheVariants.{Running}

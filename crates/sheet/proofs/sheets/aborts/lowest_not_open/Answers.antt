@@ -1,4 +1,4 @@
-use Rattle.std.proofs.Common.{◌≡◌, ℕ, ◌+◌, ◌≤◌, None, sym, ap, ◌∙◌, arith}
+use Rattle.std.proofs.Common.{◌≡◌, ℕ, ◌+◌, sym, ap, ◌∙◌, arith}
 use Rattle.model.specs.Search.{first_below}
 use Rattle.rows.specs.Tables.{rows_of}
 use Rattle.rows.proofs.Numbered.{first_below_more, first_below_found}

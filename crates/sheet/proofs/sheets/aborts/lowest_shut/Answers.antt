@@ -1,4 +1,4 @@
-use Rattle.std.proofs.Common.{◌≡◌, ℕ, ◌+◌, Bool, ◌&&◌, sym, ap, ◌∙◌}
+use Rattle.std.proofs.Common.{◌+◌, Bool, ◌&&◌, sym, ap, ◌∙◌}
 use Rattle.values.specs.declared.RowState.TheVariants.{Running}
 use Rattle.model.specs.Search.{first_below}
 use Rattle.model.specs.Rows.{in_state}
