@@ -5,8 +5,9 @@ usage: python3 tools/spell.py [--list]    at the top of the checkout, after port
 
 Facts and types go to upper camel case, everything else to snake case: a dash becomes an
 underscore, a hump an underscore and a small letter, and a closing `#` the word `_number`.
-Names that Rattle makes (answers of goals) stay, and so do strings and comments, but for
-names in backticks. `--list` prints the table and writes nothing.
+Names that Rattle makes (answers of goals, fields of their facts) stay, and so do strings and
+comments, but for names in backticks. Names that one file alone knows, as variables and private
+lemmas, are spelled file by file. `--list` prints the table of the others and writes nothing.
 """
 
 import os
@@ -15,6 +16,7 @@ import sys
 
 WORD = r"[^\s(){}\[\].,;:λ⟦⟧\"`]+"
 PAGES = ["README.md", "docs"]
+ANSWERS = ("Answers.antt", "Invariants.antt", "Proof.antt")
 # Names whose plain turn would be a word of antt, or would say something else.
 BY_HAND = {"firstOf": "first_fault", "getD-column": "get_or-column"}
 
@@ -37,13 +39,16 @@ def turned(name):
 
 def defined(text):
     """The names that a file defines: at the left margin, as fields, and as constructors."""
+    in_data = False
     for line in text.split("\n"):
         if line.startswith(("--", "use ", "pub use ")):
             continue
+        if line and not line.startswith(" "):
+            in_data = bool(re.match(r"(pub )?data ", line))
         m = re.match(r"(?:(?:abbrev|unfoldable|data|record|pub) )*(" + WORD + r")(?: [^:=]*)? : (.*)", line)
         if m and not m.group(2).startswith("goal."):
             yield m.group(1)
-        m = re.match(r"\s+(?:pub |\| ?)(" + WORD + r") : (.*)", line)
+        m = re.match(r"\s+" + ("" if in_data else "pub ") + "(" + WORD + r") : (.*)", line)
         if m:
             yield m.group(1)
 
@@ -74,6 +79,25 @@ def spelled(text, names, mark):
     return "\n".join(out)
 
 
+def code_of(text):
+    """The code of an antt file, without notes and strings, a pair of lines: imports, and the rest."""
+    lines = [re.sub(r"\"(?:[^\"\\]|\\.)*\"", "", re.split(r"--(?= |$)", l)[0]) for l in text.split("\n")]
+    imports = [l for l in lines if re.match(r"\s*(pub )?use ", l)]
+    return "\n".join(imports), "\n".join(l for l in lines if l not in imports)
+
+
+def own(text, answers):
+    """The dashed names that a file binds itself and no other file names."""
+    imports, code = code_of(text)
+    known = set(re.findall(WORD, re.sub(r" as " + WORD, "", imports)))
+    known |= set(re.findall(r"\.(" + WORD + ")", code))
+    if answers:
+        known |= set(re.findall(r"(?m)^(?:(?:abbrev|pub) )*(" + WORD + ")", code))
+    words = set(re.findall(WORD, code))
+    found = {w for w in words - known if re.fullmatch(r"[A-Za-z]\w*'?(-\w+'?)+", w)}
+    return {w: turned(w) for w in found if turned(w) not in words | known}
+
+
 def main(argv):
     root = "."
     names = table(root)
@@ -88,6 +112,8 @@ def main(argv):
         with open(p, encoding="utf-8") as it:
             old = it.read()
         new = f(old)
+        if p.endswith(".antt"):
+            new = spelled(new, own(new, os.path.basename(p) in ANSWERS), "--(?= |$)")
         if new != old:
             with open(p, "w", encoding="utf-8") as it:
                 it.write(new)

@@ -12,13 +12,13 @@ use Rattle.host.specs.View.{View, Begins, Moves, is_unknown, move_checks, begin_
 use Rattle.host.specs.Views.{joined}
 use Rattle.host.proofs.Ext.{view_ext, after_in}
 
-module _ (kind : Kind) (a b : View) (open-pair : (a.shut || b.shut) ≡ false) (row : RowKey) where
+module _ (kind : Kind) (a b : View) (open_pair : (a.shut || b.shut) ≡ false) (row : RowKey) where
   -- neither host is shut
-  first-open : a.shut ≡ false
-  first-open = grind (arith, nat_tests)
+  first_open : a.shut ≡ false
+  first_open = grind (arith, nat_tests)
 
-  second-open : b.shut ≡ false
-  second-open = grind (arith, nat_tests)
+  second_open : b.shut ≡ false
+  second_open = grind (arith, nat_tests)
 
   -- a row that the first host knows is moved there
   module _ (from to : HostState) (r : Result (Unit {0}) Fault) where

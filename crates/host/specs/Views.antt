@@ -27,7 +27,7 @@ abbrev pub switch_view : {X : Type 0} → (X → View) → Switch X → View
 switch_view view s = switched s.on (view s.inner)
 
 abbrev pub pair_view : {X Y : Type 0} → (X → View) → (Y → View) → Pair X Y → View
-pair_view first-view second-view p = joined p.kind (first-view p.first) (second-view p.second)
+pair_view first_view second_view p = joined p.kind (first_view p.first) (second_view p.second)
 
 -- whether a switch is shut after a command
 abbrev pub switch_shuts : {X C : Type 0} → (X → View) → (X → C → Bool) → Switch X → SwitchCommand C → Bool
@@ -38,8 +38,8 @@ switch_shuts view shuts s (Below c) = cond s.on (shuts s.inner c) true
 -- whether a pair is shut after a command for one of its hosts
 abbrev pub pair_shuts : {X Y C D : Type 0} → (X → View) → (X → C → Bool) → (Y → View) → (Y → D → Bool)
     → Pair X Y → PairCommand C D → Bool
-pair_shuts first-view first-shuts second-view second-shuts p (First c) = first-shuts p.first c || (second-view p.second).shut
-pair_shuts first-view first-shuts second-view second-shuts p (Second c) = (first-view p.first).shut || second-shuts p.second c
+pair_shuts first_view first_shuts second_view second_shuts p (First c) = first_shuts p.first c || (second_view p.second).shut
+pair_shuts first_view first_shuts second_view second_shuts p (Second c) = (first_view p.first).shut || second_shuts p.second c
 
 -- what a command leaves of a switch: turning it leaves the host below as it is, and a command for that host leaves the switch
 abbrev pub SwitchLeft : {X C : Type 0} → SwitchCommand C → Switch X → Switch X → Type 0

@@ -32,21 +32,21 @@ module _ (s : Settings) (n : ℕ) (text : List ℕ) (from i : ℕ) where
 
   -- one byte more of the line
   pub left_byte : from ≤ i → i < length text → (get_or text i 0 ≡ 10 → ⊥) → Left s n text from i ≡ Left s n text from (i + 1)
-  left_byte l in' no-feed =
+  left_byte l in' no_feed =
       at_drop_more (λ r. read_on s n (lines_after (take (i - from) (drop from text)) r)) text i 0 in'
-      ∙ ap (read_on s n) (other (take (i - from) (drop from text)) (get_or text i 0) (drop (i + 1) text) no-feed)
+      ∙ ap (read_on s n) (other (take (i - from) (drop from text)) (get_or text i 0) (drop (i + 1) text) no_feed)
       ∙ ap (λ l. read_on s n (lines_after l (drop (i + 1) text))) (more l in')
 
   -- a line feed ends the line
   pub left_line : i < length text → get_or text i 0 ≡ 10
       → Left s n text from i ≡ and_then (after_line n (trimmed (take (i - from) (drop from text))) s) (λ t. Left t (n + 1) text (i + 1) (i + 1))
-  left_line in' is-feed =
+  left_line in' is_feed =
       let start : 0 ≡ i + 1 - (i + 1) = omega arith in
       let rest = drop (i + 1) text in
       let this = after_line n (trimmed (take (i - from) (drop from text))) s in
       let on : ℕ → Result Contents Unreadable = λ k. and_then this (λ t. read_on t (n + 1) (lines_after (take k rest) rest)) in
       at_drop_more (λ r. read_on s n (lines_after (take (i - from) (drop from text)) r)) text i 0 in'
-      ∙ ap (read_on s n) (feed (take (i - from) (drop from text)) (get_or text i 0) (drop (i + 1) text) is-feed) ∙ ap on start
+      ∙ ap (read_on s n) (feed (take (i - from) (drop from text)) (get_or text i 0) (drop (i + 1) text) is_feed) ∙ ap on start
 
   -- the text ends after a line feed, or in a line
   pub left_none : length text ≤ i → length text ≤ from → Left s n text from i ≡ at_line n (completed s)
@@ -66,13 +66,13 @@ module _ (s : Settings) (n : ℕ) (text : List ℕ) (from i : ℕ) {line : List 
   -- after a line that a line feed ends, what is left still gives the answer of the whole
   pub line_next : i < length text → get_or text i 0 ≡ 10 → line ≡ trimmed (take (i - from) (drop from text)) → after_line n line s ≡ r
       → Left s n text from i ≡ journal text → and_then r (λ t. Left t (n + 1) text (i + 1) (i + 1)) ≡ journal text
-  line_next in' is-feed line-is read whole =
+  line_next in' is_feed line_is read whole =
       let on : Result Settings Unreadable → Result Contents Unreadable = λ r. and_then r (λ t. Left t (n + 1) text (i + 1) (i + 1)) in
-      ap on (sym read) ∙ ap (λ l. on (after_line n l s)) line-is ∙ sym (left_line s n text from i in' is-feed) ∙ whole
+      ap on (sym read) ∙ ap (λ l. on (after_line n l s)) line_is ∙ sym (left_line s n text from i in' is_feed) ∙ whole
 
   -- and after a last line that none ends
   pub line_last : length text ≤ i → i ≤ length text → from < length text → line ≡ take (length text - from) (drop from text) → after_line n line s ≡ r
       → Left s n text from i ≡ journal text → and_then r (λ t. at_line (n + 1) (completed t)) ≡ journal text
-  line_last l m h line-is read whole =
+  line_last l m h line_is read whole =
       let on : Result Settings Unreadable → Result Contents Unreadable = λ r. and_then r (λ t. at_line (n + 1) (completed t)) in
-      ap on (sym read) ∙ ap (λ l. on (after_line n l s)) line-is ∙ sym (left_some s n text from i l m h) ∙ whole
+      ap on (sym read) ∙ ap (λ l. on (after_line n l s)) line_is ∙ sym (left_some s n text from i l m h) ∙ whole

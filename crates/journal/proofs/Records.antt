@@ -34,11 +34,11 @@ module _ (k i : ℕ) (xs : List ℕ) (c : Cursor) (lines whole : List (List ℕ 
 
   pub one_more : (it : Record) (s : List ℕ × Cursor) {new : List (List ℕ × Standing)} → Ok (Some it) ≡ said_by (next xs c)
       → s ≡ stand_after (next xs c) (xs, c) → new ≡ lines ++ line_before it [] → new ++ handed (k - (i + 1)) s.0 s.1 ≡ whole
-  one_more it s said after New-is =
+  one_more it s said after new_is =
       let rest = handed (k - (i + 1)) s.0 s.1 in
       let told = unrolled ∙ some_record (next xs c) (xs, c) it (handed (k - (i + 1))) said
       ∙ ap (λ t. line_before it (handed (k - (i + 1)) t.0 t.1)) (sym after) ∙ before_append it rest in
-      ap (λ n. n ++ rest) New-is ∙ append_assoc lines (line_before it []) rest ∙ ap (λ t. lines ++ t) (sym told) ∙ inv
+      ap (λ n. n ++ rest) new_is ∙ append_assoc lines (line_before it []) rest ∙ ap (λ t. lines ++ t) (sym told) ∙ inv
 
   ends : handed (k - i) xs c ≡ [] → lines ≡ whole
   ends none = sym (append-nil lines) ∙ ap (λ t. lines ++ t) (sym none) ∙ inv

@@ -18,18 +18,18 @@ use Rattle.journal.specs.declared.text.Class.TheVariants.{Allowed}
 -- what one line says
 pub data Said : Type 0 where
   nothing : Said
-  process-is : List ℕ → Said
-  serial-is : ℕ → Said
-  scores-is : ℕ → Said
-  ledger-is : ℕ → Said
+  process_is : List ℕ → Said
+  serial_is : ℕ → Said
+  scores_is : ℕ → Said
+  ledger_is : ℕ → Said
 
 -- the same of the code's statement, which has the process in hex digits
 abbrev pub meant : Statement → Said
 meant statement.Nothing = nothing
-meant (statement.Process digits) = process-is (paired digits.now)
-meant (statement.Serial n) = serial-is n
-meant (statement.Scores n) = scores-is n
-meant (statement.Ledger n) = ledger-is n
+meant (statement.Process digits) = process_is (paired digits.now)
+meant (statement.Serial n) = serial_is n
+meant (statement.Scores n) = scores_is n
+meant (statement.Ledger n) = ledger_is n
 
 -- one after the other, up to the first that is refused
 abbrev pub and_then : {A B E : Type 0} → Result A E → (A → Result B E) → Result B E
@@ -46,10 +46,10 @@ keyword w =
 
 -- what a line with this keyword says, by its other words
 abbrev pub spoken : Keyword → List (List ℕ) → Result Said Wrong
-spoken Process ws = and_then (only ws) (λ w. and_then (bytes_of_hex w) (λ bs. Ok (process-is bs)))
-spoken Serial ws = and_then (only ws) (λ w. and_then (number 65535 w) (λ n. Ok (serial-is n)))
-spoken Scores ws = and_then (only ws) (λ w. and_then (number 65535 w) (λ n. Ok (scores-is n)))
-spoken Ledger ws = and_then (only ws) (λ w. and_then (number 65535 w) (λ n. Ok (ledger-is n)))
+spoken Process ws = and_then (only ws) (λ w. and_then (bytes_of_hex w) (λ bs. Ok (process_is bs)))
+spoken Serial ws = and_then (only ws) (λ w. and_then (number 65535 w) (λ n. Ok (serial_is n)))
+spoken Scores ws = and_then (only ws) (λ w. and_then (number 65535 w) (λ n. Ok (scores_is n)))
+spoken Ledger ws = and_then (only ws) (λ w. and_then (number 65535 w) (λ n. Ok (ledger_is n)))
 
 abbrev pub spoken_if : Option Keyword → List (List ℕ) → Result Said Wrong
 spoken_if None ws = Err UnknownWord
@@ -91,18 +91,18 @@ after_serial s = and_then (require (is_some s.process) MissingProcess) (λ _. re
 -- the order of the settings: process first, then serial, then the others, each at most once
 abbrev pub admitted : Said → Settings → Result (Unit {0}) Wrong
 admitted nothing s = Ok tt
-admitted (process-is bs) s = require (not (is_some s.process)) Repeated
-admitted (serial-is v) s = and_then (require (is_some s.process) MissingProcess) (λ _. require (not (is_some s.serial)) Repeated)
-admitted (scores-is v) s = and_then (after_serial s) (λ _. require (not (is_some s.scores)) Repeated)
-admitted (ledger-is v) s = and_then (after_serial s) (λ _. require (not (is_some s.ledger)) Repeated)
+admitted (process_is bs) s = require (not (is_some s.process)) Repeated
+admitted (serial_is v) s = and_then (require (is_some s.process) MissingProcess) (λ _. require (not (is_some s.serial)) Repeated)
+admitted (scores_is v) s = and_then (after_serial s) (λ _. require (not (is_some s.scores)) Repeated)
+admitted (ledger_is v) s = and_then (after_serial s) (λ _. require (not (is_some s.ledger)) Repeated)
 
 -- the settings with one more, which stands in line n
 abbrev pub stored : ℕ → Said → Settings → Settings
 stored n nothing s = s
-stored n (process-is bs) s = record { process = Some (n, bs); serial = s.serial; scores = s.scores; ledger = s.ledger }
-stored n (serial-is v) s = record { process = s.process; serial = Some v; scores = s.scores; ledger = s.ledger }
-stored n (scores-is v) s = record { process = s.process; serial = s.serial; scores = Some v; ledger = s.ledger }
-stored n (ledger-is v) s = record { process = s.process; serial = s.serial; scores = s.scores; ledger = Some v }
+stored n (process_is bs) s = record { process = Some (n, bs); serial = s.serial; scores = s.scores; ledger = s.ledger }
+stored n (serial_is v) s = record { process = s.process; serial = Some v; scores = s.scores; ledger = s.ledger }
+stored n (scores_is v) s = record { process = s.process; serial = s.serial; scores = Some v; ledger = s.ledger }
+stored n (ledger_is v) s = record { process = s.process; serial = s.serial; scores = s.scores; ledger = Some v }
 
 -- what is wrong, with the number of the line
 abbrev pub at_line : {A : Type 0} → ℕ → Result A Wrong → Result A Unreadable

@@ -52,18 +52,18 @@ has_place x (y ∷ ys) m =
 
 module _ (c : Chart) (s : Sheet) (v : View) (k : ℕ) (fs : List ℕ) (fair : Bool) (kind : Kind)
     (accepted : start_fault c s v k fs fair kind ≡ None) where
-  start-passed : Passed (start_checks c s k fs fair ++ begin_checks v (key_of (s.rows.count + 1)) kind)
-  start-passed = passes (start_checks c s k fs fair ++ begin_checks v (key_of (s.rows.count + 1)) kind) accepted
+  start_passed : Passed (start_checks c s k fs fair ++ begin_checks v (key_of (s.rows.count + 1)) kind)
+  start_passed = passes (start_checks c s k fs fair ++ begin_checks v (key_of (s.rows.count + 1)) kind) accepted
 
   pub start_forward : s.phase ≡ Forward
-  start_forward = phase_passed s Forward start-passed.0
+  start_forward = phase_passed s Forward start_passed.0
 
   -- each predecessor is committed
   pub start_fits : (f : ℕ) → has f fs ≡ true → s.rows.state f ≡ Committed
   start_fits f m =
       let (i, low, e) = has_place f fs m in
       let none = bad_at_none (first_below (length fs) (unfit_at c s.rows k fs)) UnfitPredecessor OfSheet
-      start-passed.1.1.1.0 in
+      start_passed.1.1.1.0 in
       let fit = first_below_none (length fs) (unfit_at c s.rows k fs) none i low in
       let x = get_or fs i 0 in
       let done = in_state s.rows Committed x in
@@ -75,7 +75,7 @@ module _ (c : Chart) (s : Sheet) (v : View) (k : ℕ) (fs : List ℕ) (fair : Bo
   pub start_room : s.rows.count < 256
   start_room =
       ltb-true s.rows.count 256 (passed_test (ltb s.rows.count 256) FullSheet OfSheet 256
-      start-passed.1.1.1.1.1.1.0)
+      start_passed.1.1.1.1.1.1.0)
 
 -- ── end, abort ──
 
@@ -85,34 +85,34 @@ end_running s v k h =
     (passes (phase_check s Forward ∷ row_check s.rows Running k ∷ move_checks Open v (key_of k)) h).1.0
 
 module _ (s : Sheet) (v : View) (m : Mode) (column line : ℕ) (accepted : abort_fault s v m column line ≡ None) where
-  abort-passed : Passed (abort_checks s v m column line)
-  abort-passed = passes (abort_checks s v m column line) accepted
+  abort_passed : Passed (abort_checks s v m column line)
+  abort_passed = passes (abort_checks s v m column line) accepted
 
   pub abort_forward : s.phase ≡ Forward
-  abort_forward = phase_passed s Forward abort-passed.1.0
+  abort_forward = phase_passed s Forward abort_passed.1.0
 
   pub abort_mode : mode_check s.rows m ≡ None
-  abort_mode = abort-passed.1.1.0
+  abort_mode = abort_passed.1.1.0
 
 -- ── undo, finish ──
 
 module _ (s : Sheet) (v : View) (t : TicketNumber) (k column line : ℕ)
     (accepted : undo_fault s v t k column line ≡ None) where
-  undo-passed : Passed (undo_checks s v t k column line)
-  undo-passed = passes (undo_checks s v t k column line) accepted
+  undo_passed : Passed (undo_checks s v t k column line)
+  undo_passed = passes (undo_checks s v t k column line) accepted
 
   pub undo_undoing : s.phase ≡ Undoing
-  undo_undoing = phase_passed s Undoing undo-passed.1.0
+  undo_undoing = phase_passed s Undoing undo_passed.1.0
 
   pub undo_due : s.rows.state k ≡ Due
-  undo_due = row_passed s.rows Due k undo-passed.1.1.1.0
+  undo_due = row_passed s.rows Due k undo_passed.1.1.1.0
 
   -- no row after an undone one is due
   pub undo_free : Orderly s → (x : ℕ) → After s.rows.preds k x → s.rows.state x ≡ Due → ⊥
   undo_free o x p due =
       let bars : ℕ → Bool = λ y. in_state s.rows Due y && after s.rows (eqb k) y in
       let low = numbered s o x Due refl due in
-      let none = bad_at_none (due_after s.rows k) DueAfter OfSheet undo-passed.1.1.1.1.0 in
+      let none = bad_at_none (due_after s.rows k) DueAfter OfSheet undo_passed.1.1.1.1.0 in
       both_ways (bars x) (first_below_none (s.rows.count + 1) bars none x (omega arith))
       (and_from (in_state s.rows Due x) (after s.rows (eqb k) x)
       (eq_same_state (s.rows.state x) Due due) ((after_is_after s o k x).1 p))

@@ -79,8 +79,8 @@ module _ (c : Chart) (s : Sheet) (m : Mode) (o : Orderly s) (forward : s.phase �
   pub abort_due : (k : ℕ) → now k ≡ Due → (s.rows.state k ≡ Committed) × (struck k ≡ true)
   abort_due k h = fallen_due (s.rows.state k) (struck k) (idles k) (o.none_due forward k) h
 
-  abort-committed : (v w : ℕ) → live (now v) ≡ true → has w (s.rows.preds v) ≡ true → now w ≡ Committed
-  abort-committed v w a q =
+  abort_committed : (v w : ℕ) → live (now v) ≡ true → has w (s.rows.preds v) ≡ true → now w ≡ Committed
+  abort_committed v w a q =
       let (h, spared) = fallen_live (s.rows.state v) (struck v) (idles v) a in
       let before = o.committed v w (committed_live (s.rows.state v) h) q in
       fallen_stays (s.rows.state w) (struck w) (idles w) before
@@ -89,30 +89,30 @@ module _ (c : Chart) (s : Sheet) (m : Mode) (o : Orderly s) (forward : s.phase �
         | inr t ↦ t
       ])
 
-  abort-in-order : (u v : ℕ) → After s.rows.preds u v → now u ≡ Undone → now v ≡ Due → ⊥
-  abort-in-order u v p undone due =
-      let live-before = committed_live (s.rows.state v) (abort_due v due).0 in
-      fallen_undone (s.rows.state u) (struck u) (idles u) undone (before_live s o p live-before)
+  abort_in_order : (u v : ℕ) → After s.rows.preds u v → now u ≡ Undone → now v ≡ Due → ⊥
+  abort_in_order u v p undone due =
+      let live_before = committed_live (s.rows.state v) (abort_due v due).0 in
+      fallen_undone (s.rows.state u) (struck u) (idles u) undone (before_live s o p live_before)
 
-  abort-due-now : (k : ℕ) → now k ≡ Due → (aborted c s m).rolled k ≡ s.rollback + 1
-  abort-due-now k h =
+  abort_due_now : (k : ℕ) → now k ≡ Due → (aborted c s m).rolled k ≡ s.rollback + 1
+  abort_due_now k h =
       let runs = in_state s.rows Running k in
       cond-true (runs || struck k) (s.rollback + 1) (s.rolled k) (or_right runs (struck k) (abort_due k h).1)
 
-  abort-past : (k : ℕ) → (aborted c s m).rolled k ≤ s.rollback + 1
-  abort-past k =
+  abort_past : (k : ℕ) → (aborted c s m).rolled k ≤ s.rollback + 1
+  abort_past k =
       cond_both (in_state s.rows Running k || struck k) (s.rollback + 1) (s.rolled k) (λ n. n ≤ s.rollback + 1)
       (λ _. omega arith) (λ _. let past = o.past k in omega arith)
 
-  abort-wanes : (k : ℕ) → live (now k) ≡ true → live (s.rows.state k) ≡ true
-  abort-wanes k a = committed_live (s.rows.state k) (fallen_live (s.rows.state k) (struck k) (idles k) a).0
+  abort_wanes : (k : ℕ) → live (now k) ≡ true → live (s.rows.state k) ≡ true
+  abort_wanes k a = committed_live (s.rows.state k) (fallen_live (s.rows.state k) (struck k) (idles k) a).0
 
   pub abort_spent : mode_check s.rows m ≡ None → s.rollback ≤ gone s.rows.state s.rows.count
       → s.rollback + 1 ≤ gone now s.rows.count
   abort_spent check spent =
       let (k, was, is) = taken c s.rows m check in
       let (one, low) = live_numbered s o k was in
-      let grows = gone_grows s.rows.state now s.rows.count (λ j _. abort-wanes j) k one low was is in
+      let grows = gone_grows s.rows.state now s.rows.count (λ j _. abort_wanes j) k one low was is in
       omega arith
 
   pub abort_orderly : mode_check s.rows m ≡ None → s.rollback ≤ gone s.rows.state s.rows.count
@@ -122,11 +122,11 @@ module _ (c : Chart) (s : Sheet) (m : Mode) (o : Orderly s) (forward : s.phase �
     present = λ k one low h. o.present k one low (fallen_absent (s.rows.state k) (struck k) (idles k) h);
     rows_only = o.rows_only;
     lower = o.lower;
-    committed = abort-committed;
+    committed = abort_committed;
     none_due = λ z. grind arith;
-    in_order = abort-in-order;
-    due_now = abort-due-now;
-    past = abort-past;
+    in_order = abort_in_order;
+    due_now = abort_due_now;
+    past = abort_past;
     few_rows = o.few_rows;
     few_rollbacks =
         let fits = gone_le now s.rows.count in

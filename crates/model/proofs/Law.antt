@@ -12,7 +12,7 @@ use Rattle.model.specs.Run.{World, Lent, Event, undo, does, said, History, Leads
 use Rattle.model.specs.Book.{book_of, undos_of}
 use Rattle.model.specs.Sheets.{Orderly, HostFollows}
 use Rattle.model.specs.Histories.{Finished, EventLaw, LawfulHistory, LawOverEveryRun}
-use Rattle.model.specs.Histories.{nothing as lawful-nothing, one_more as lawful-more}
+use Rattle.model.specs.Histories.{nothing as lawful_nothing, one_more as lawful_more}
 use Rattle.model.proofs.Accepted.{undo_free}
 use Rattle.model.proofs.Books.{finish_is_the_book}
 use Rattle.model.proofs.Hosts.{follows_first, follows_does}
@@ -41,8 +41,8 @@ module _ (c : Chart) (serial : ℕ) (v : View) (l : Lent) (fresh : Fresh v) (sou
   follows nothing = follows_first serial v fresh sound
   follows (one_more {w = w} q e) = follows_does c w e (orderly q) (follows q)
 
-  event-law : {h : History} {w : World} → Leads c first h w → (e : Event) → EventLaw c first h w e
-  event-law {h} {w} q e = record {
+  event_law : {h : History} {w : World} → Leads c first h w → (e : Event) → EventLaw c first h w e
+  event_law {h} {w} q e = record {
     no_undo_before_a_due_row_after_it = λ t u p. subst
         (λ (x : Event). (does c w x).1 ≡ Done → (k : ℕ) → After w.sheet.rows.preds u k → w.sheet.rows.state k ≡ Due → ⊥)
         (sym p) (undo_in_order c w (orderly q) t u);
@@ -53,9 +53,9 @@ module _ (c : Chart) (serial : ℕ) (v : View) (l : Lent) (fresh : Fresh v) (sou
     private_entries_change_no_answer = secret_run c first q;
   }
 
-  lawful-history : {h : History} {w : World} → Leads c first h w → LawfulHistory c first h w
-  lawful-history nothing = lawful-nothing (follows_first serial v fresh sound)
-  lawful-history (one_more q e) = lawful-more (lawful-history q) e (event-law q e)
+  lawful_history : {h : History} {w : World} → Leads c first h w → LawfulHistory c first h w
+  lawful_history nothing = lawful_nothing (follows_first serial v fresh sound)
+  lawful_history (one_more q e) = lawful_more (lawful_history q) e (event_law q e)
 
 pub law_over_every_run : LawOverEveryRun
-law_over_every_run c serial v l fresh sound h w q = lawful-history c serial v l fresh sound q
+law_over_every_run c serial v l fresh sound h w q = lawful_history c serial v l fresh sound q

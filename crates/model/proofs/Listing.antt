@@ -41,41 +41,41 @@ use Rattle.model.proofs.Rising.{ascends_each, one_rises, all_below_rise}
 
 module _ (r : Rows) (u v : ℕ) where
   -- paths into x may go on: x is v, or passed over
-  abbrev on-way : ℕ → Bool
-  on-way x = eqb x v || in_state r PassedOver x
+  abbrev on_way : ℕ → Bool
+  on_way x = eqb x v || in_state r PassedOver x
 
-  path-out : (w x : ℕ) → has w (over_passed r v x) ≡ true → (on-way x ≡ true) × (has w (r.preds x) ≡ true)
-  path-out w x h = go (on-way x) refl h
+  path_out : (w x : ℕ) → has w (over_passed r v x) ≡ true → (on_way x ≡ true) × (has w (r.preds x) ≡ true)
+  path_out w x h = go (on_way x) refl h
     where
-      go : (t : Bool) → on-way x ≡ t → has w (cond t (r.preds x) []) ≡ true
-          → (on-way x ≡ true) × (has w (r.preds x) ≡ true)
+      go : (t : Bool) → on_way x ≡ t → has w (cond t (r.preds x) []) ≡ true
+          → (on_way x ≡ true) × (has w (r.preds x) ≡ true)
       go true e m = (e, m)
       go false e m = absurd (clash m)
 
-  path-in : (w x : ℕ) → on-way x ≡ true → has w (r.preds x) ≡ true → has w (over_passed r v x) ≡ true
-  path-in w x e m = ap (λ t. has w (cond t (r.preds x) [])) e ∙ m
+  path_in : (w x : ℕ) → on_way x ≡ true → has w (r.preds x) ≡ true → has w (over_passed r v x) ≡ true
+  path_in w x e m = ap (λ t. has w (cond t (r.preds x) [])) e ∙ m
 
-  is-on-way : {x : ℕ} → After (over_passed r v) u x → on-way x ≡ true
-  is-on-way {x} (next m) = (path-out u x m).0
-  is-on-way {x} (further {w = w} p m) = (path-out w x m).0
+  is_on_way : {x : ℕ} → After (over_passed r v) u x → on_way x ≡ true
+  is_on_way {x} (next m) = (path_out u x m).0
+  is_on_way {x} (further {w = w} p m) = (path_out w x m).0
 
   -- numbers fall along a path back, so that v itself is not between
-  to-through : Lower r.preds → (x : ℕ) → x ≤ v → After (over_passed r v) u x → Through r u x
-  to-through low x l (next m) = direct (path-out u x m).1
-  to-through low x l (further {w = w} p m) =
-      let arrow = (path-out w x m).1 in
+  to_through : Lower r.preds → (x : ℕ) → x ≤ v → After (over_passed r v) u x → Through r u x
+  to_through low x l (next m) = direct (path_out u x m).1
+  to_through low x l (further {w = w} p m) =
+      let arrow = (path_out w x m).1 in
       let lt = low x w arrow in
       let passed : r.state w ≡ PassedOver =
-      elim (or_cases (eqb w v) (in_state r PassedOver w) (is-on-way p)) [
+      elim (or_cases (eqb w v) (in_state r PassedOver w) (is_on_way p)) [
         | inl e ↦ let same = eqb-true w v e in absurd (omega arith)
         | inr e ↦ same_state_eq _ _ e
       ] in
-      over (to-through low w (omega arith) p) passed arrow
+      over (to_through low w (omega arith) p) passed arrow
 
-  from-through : {x : ℕ} → on-way x ≡ true → Through r u x → After (over_passed r v) u x
-  from-through {x} e (direct m) = next (path-in u x e m)
-  from-through {x} e (over {x = w} t h m) =
-      further (from-through (or_right (eqb w v) (in_state r PassedOver w) (eq_same_state _ _ h)) t) (path-in w x e m)
+  from_through : {x : ℕ} → on_way x ≡ true → Through r u x → After (over_passed r v) u x
+  from_through {x} e (direct m) = next (path_in u x e m)
+  from_through {x} e (over {x = w} t h m) =
+      further (from_through (or_right (eqb w v) (in_state r PassedOver w) (eq_same_state _ _ h)) t) (path_in w x e m)
 
 -- a row at the end of a path has a predecessor
 last_arrow : (r : Rows) {u v : ℕ} → Through r u v → (w : ℕ) × (has w (r.preds v) ≡ true)
@@ -84,54 +84,54 @@ last_arrow r (over {x = x} t h m) = (x, m)
 
 linked_is : (s : Sheet) → Orderly s → (u v : ℕ) → Decides (linked s.rows u v) (Through s.rows u v)
 linked_is s o u v = (
-  (λ h. to-through r u v o.lower v (omega arith) (sound_from (over_passed r v) u r.count v h)),
+  (λ h. to_through r u v o.lower v (omega arith) (sound_from (over_passed r v) u r.count v h)),
   (λ t. let (w, m) = last_arrow r t in
       complete_from (over_passed r v) low u r.count v (follower_numbered s o v w m)
-      (from-through r u v (or_left (eqb v v) (in_state r PassedOver v) (eq-eqb v v refl)) t)),
+      (from_through r u v (or_left (eqb v v) (in_state r PassedOver v) (eq-eqb v v refl)) t)),
 )
   where
     r : Rows
     r = s.rows
 
     low : Lower (over_passed r v)
-    low x w m = o.lower x w (path-out r u v w x m).1
+    low x w m = o.lower x w (path_out r u v w x m).1
 
 module _ (s : Sheet) where
   abbrev bound : ℕ
   bound = s.rows.count + 1
 
   -- the graph's arrows from v
-  abbrev arrows-at : ℕ → List RowArrow
-  arrows-at v = cond (in_graph s v) (arrows_from s v) []
+  abbrev arrows_at : ℕ → List RowArrow
+  arrows_at v = cond (in_graph s v) (arrows_from s v) []
 
   -- an arrow of the graph from v ends at u
   abbrev ends : ℕ → ℕ → Bool
   ends v u = in_graph s u && linked s.rows u v
 
-  arrow-out : (v : ℕ) (a : RowArrow) → In a (arrows-at v)
+  arrow_out : (v : ℕ) (a : RowArrow) → In a (arrows_at v)
       → (in_graph s v ≡ true) × (a.from ≡ v) × (ends v a.to ≡ true)
-  arrow-out v a m =
+  arrow_out v a m =
       let (g, k) = if_out a (in_graph s v) (arrows_from s v) m in
       let (u, j, e) = map_out _ a (all_below bound (ends v)) k in
       let (_, q) = all_below_out bound (ends v) u j in
       (g, ap (λ x. x.from) e, ap (λ x. ends v x.to) e ∙ q)
 
-  arrow-in : (v u : ℕ) → in_graph s v ≡ true → u < bound → ends v u ≡ true
-      → In (record { from = v; to = u }) (arrows-at v)
-  arrow-in v u g l q =
+  arrow_in : (v u : ℕ) → in_graph s v ≡ true → u < bound → ends v u ≡ true
+      → In (record { from = v; to = u }) (arrows_at v)
+  arrow_in v u g l q =
       if_in (record { from = v; to = u }) (in_graph s v) (arrows_from s v) g
       (map_in (λ x. record { from = v; to = x }) u (all_below bound (ends v)) (all_below_in bound (ends v) u l q))
 
   arrows_rise : Ascends ArrowBefore (graph_arrows s)
   arrows_rise =
-      ascends_each ArrowBefore bound arrows-at one-row
+      ascends_each ArrowBefore bound arrows_at one_row
       (λ j k a b l m q.
-      let e = (arrow-out j a m).1 in
-      let f = (arrow-out k b q).1 in
+      let e = (arrow_out j a m).1 in
+      let f = (arrow_out k b q).1 in
       inl (omega arith))
     where
-      one-row : (v : ℕ) → Ascends ArrowBefore (arrows-at v)
-      one-row v =
+      one_row : (v : ℕ) → Ascends ArrowBefore (arrows_at v)
+      one_row v =
           ascends_if ArrowBefore (in_graph s v) (arrows_from s v)
           (ascends_map ArrowBefore ◌<◌ (λ u. record { from = v; to = u }) (λ x y l. inr (refl, l))
           (all_below bound (ends v)) (all_below_rise bound (ends v)))
@@ -139,8 +139,8 @@ module _ (s : Sheet) where
   module _ (o : Orderly s) where
     arrows_are : (a : RowArrow) → In a (graph_arrows s) → IsArrow s a
     arrows_are a m =
-        let (v, _, k) = each_below_out bound arrows-at a m in
-        let (g, e, q) = arrow-out v a k in
+        let (v, _, k) = each_below_out bound arrows_at a m in
+        let (g, e, q) = arrow_out v a k in
         let (h, t) = and_parts (in_graph s a.to) (linked s.rows a.to v) q in
         record {
           later = ap (in_graph s) e ∙ g;
@@ -153,8 +153,8 @@ module _ (s : Sheet) where
 
     arrows_all : (a : RowArrow) → IsArrow s a → In a (graph_arrows s)
     arrows_all a h =
-        each_below_in bound arrows-at a.from a (graph_row a.from h.later)
-        (arrow-in a.from a.to h.later (graph_row a.to h.earlier)
+        each_below_in bound arrows_at a.from a (graph_row a.from h.later)
+        (arrow_in a.from a.to h.later (graph_row a.to h.earlier)
         (and_from (in_graph s a.to) (linked s.rows a.to a.from) h.earlier
         ((linked_is s o a.to a.from).1 h.path)))
 
@@ -179,39 +179,39 @@ module _ (c : Chart) (s : Sheet) (o : Orderly s) (f : ℕ) where
   abbrev r : Rows
   r = s.rows
 
-  behind-is : (x : ℕ) → Decides (behind c r f x) (Behind c r f x)
-  behind-is x = Decides-or (eqb x f) (backward c r f x) (Decides-eqb x f) (backward_is c s o f x)
+  behind_is : (x : ℕ) → Decides (behind c r f x) (Behind c r f x)
+  behind_is x = Decides-or (eqb x f) (backward c r f x) (Decides-eqb x f) (backward_is c s o f x)
 
-  backward-lower : {u : ℕ} → Backward c r f u → u < f
-  backward-lower (near {u = u} m q) = o.lower f u m
-  backward-lower (far {x = x} {u = u} b m q) =
-      let l = backward-lower b in
+  backward_lower : {u : ℕ} → Backward c r f u → u < f
+  backward_lower (near {u = u} m q) = o.lower f u m
+  backward_lower (far {x = x} {u = u} b m q) =
+      let l = backward_lower b in
       let k = o.lower x u m in
       omega arith
 
-  behind-row : f ≤ r.count → (x : ℕ) → Behind c r f x → x < r.count + 1
-  behind-row l x (inl e) = omega arith
-  behind-row l x (inr b) = let k = backward-lower b in omega arith
+  behind_row : f ≤ r.count → (x : ℕ) → Behind c r f x → x < r.count + 1
+  behind_row l x (inl e) = omega arith
+  behind_row l x (inr b) = let k = backward_lower b in omega arith
 
-  at-start-is : f ≤ r.count → Decides (at_start c r f) (FromStart c r f)
-  at-start-is l =
+  at_start_is : f ≤ r.count → Decides (at_start c r f) (FromStart c r f)
+  at_start_is l =
       Decides-like (at_start c r f)
       (λ h. record { row = h.0; behind = h.1.0; first_step = h.1.1 })
       (λ h. (h.row, (h.behind, h.first_step)))
       (found_is (r.count + 1) (λ x. behind c r f x && eqb (r.step x) 1) (λ x. Behind c r f x × (r.step x ≡ 1))
-      (λ x. Decides-and _ _ (behind-is x) (Decides-eqb (r.step x) 1))
-      (λ x h. behind-row l x h.0))
+      (λ x. Decides-and _ _ (behind_is x) (Decides-eqb (r.step x) 1))
+      (λ x h. behind_row l x h.0))
 
-  follower-is : (w : ℕ)
+  follower_is : (w : ℕ)
       → Decides (any_below (r.count + 1) (λ x. behind c r f x && has w (r.preds x)))
       ((x : ℕ) × (Behind c r f x × (has w (r.preds x) ≡ true)))
-  follower-is w =
+  follower_is w =
       found_is (r.count + 1) _ (λ x. Behind c r f x × (has w (r.preds x) ≡ true))
-      (λ x. Decides-and _ _ (behind-is x) (itself (has w (r.preds x))))
+      (λ x. Decides-and _ _ (behind_is x) (itself (has w (r.preds x))))
       (λ x h. let l = follower_numbered s o x w h.1 in omega arith)
 
-  stopped-is : (w : ℕ) → Decides (stopped c r f w) (Stopped c r f w)
-  stopped-is w =
+  stopped_is : (w : ℕ) → Decides (stopped c r f w) (Stopped c r f w)
+  stopped_is w =
       Decides-like (stopped c r f w)
       (λ h. record {
         savepoint = h.0;
@@ -222,40 +222,40 @@ module _ (c : Chart) (s : Sheet) (o : Orderly s) (f : ℕ) where
       })
       (λ h. (h.savepoint, (eq_same_state _ _ h.committed, (h.follower, (h.behind, h.arrow)))))
       (Decides-and _ _ (itself (is_savepoint c r w))
-      (Decides-and _ _ (itself (in_state r Committed w)) (follower-is w)))
+      (Decides-and _ _ (itself (in_state r Committed w)) (follower_is w)))
 
   -- the two parts of the list
-  abbrev start-point : List ℕ
-  start-point = cond (at_start c r f) (0 ∷ []) []
+  abbrev start_point : List ℕ
+  start_point = cond (at_start c r f) (0 ∷ []) []
 
   abbrev savepoints : List ℕ
   savepoints = all_below (r.count + 1) (stopped c r f)
 
-  start-out : f ≤ r.count → (p : ℕ) → In p start-point → (p ≡ 0) × FromStart c r f
-  start-out l p m =
+  start_out : f ≤ r.count → (p : ℕ) → In p start_point → (p ≡ 0) × FromStart c r f
+  start_out l p m =
       let (t, k) = if_out p (at_start c r f) (0 ∷ []) m in
-      (only p 0 k, (at-start-is l).0 t)
+      (only p 0 k, (at_start_is l).0 t)
 
-  start-in : f ≤ r.count → (p : ℕ) → (p ≡ 0) × FromStart c r f → In p start-point
-  start-in l p h =
-      if_in p (at_start c r f) (0 ∷ []) ((at-start-is l).1 h.1) (subst (λ x. In x (0 ∷ [])) (sym h.0) here)
+  start_in : f ≤ r.count → (p : ℕ) → (p ≡ 0) × FromStart c r f → In p start_point
+  start_in l p h =
+      if_in p (at_start c r f) (0 ∷ []) ((at_start_is l).1 h.1) (subst (λ x. In x (0 ∷ [])) (sym h.0) here)
 
-  savepoint-out : (p : ℕ) → In p savepoints → Stopped c r f p
-  savepoint-out p m = (stopped-is p).0 (all_below_out (r.count + 1) (stopped c r f) p m).1
+  savepoint_out : (p : ℕ) → In p savepoints → Stopped c r f p
+  savepoint_out p m = (stopped_is p).0 (all_below_out (r.count + 1) (stopped c r f) p m).1
 
-  savepoint-in : (p : ℕ) → Stopped c r f p → In p savepoints
-  savepoint-in p h =
+  savepoint_in : (p : ℕ) → Stopped c r f p → In p savepoints
+  savepoint_in p h =
       let l = (numbered s o p Committed refl h.committed).1 in
-      all_below_in (r.count + 1) (stopped c r f) p (omega arith) ((stopped-is p).1 h)
+      all_below_in (r.count + 1) (stopped c r f) p (omega arith) ((stopped_is p).1 h)
 
   -- row 0 is none, so that no savepoint is the start
-  parts-rise : Ascends ◌<◌ (start-point ++ savepoints)
-  parts-rise =
-      ascends_append ◌<◌ start-point savepoints (ascends_if ◌<◌ (at_start c r f) (0 ∷ []) (one_rises 0))
+  parts_rise : Ascends ◌<◌ (start_point ++ savepoints)
+  parts_rise =
+      ascends_append ◌<◌ start_point savepoints (ascends_if ◌<◌ (at_start c r f) (0 ∷ []) (one_rises 0))
       (all_below_rise (r.count + 1) (stopped c r f))
       (λ x y h k.
       let zero = only x 0 (if_out x (at_start c r f) (0 ∷ []) h).1 in
-      let one = (numbered s o y Committed refl (savepoint-out y k).committed).0 in
+      let one = (numbered s o y Committed refl (savepoint_out y k).committed).0 in
       omega arith)
 
 module _ (c : Chart) (s : Sheet) (o : Orderly s) where
@@ -263,22 +263,22 @@ module _ (c : Chart) (s : Sheet) (o : Orderly s) where
       → (p : ℕ) → In p (restart_points c s.rows m) → IsRestart c s.rows m p
   points_are Complete l p h = only p 0 h
   points_are (Partial f) l p h =
-      elim (in_cases p (start-point c s o f) (savepoints c s o f) h) [
-        | inl a ↦ inl (start-out c s o f (l f refl) p a)
-        | inr b ↦ inr (savepoint-out c s o f p b)
+      elim (in_cases p (start_point c s o f) (savepoints c s o f) h) [
+        | inl a ↦ inl (start_out c s o f (l f refl) p a)
+        | inr b ↦ inr (savepoint_out c s o f p b)
       ]
 
   points_all : (m : Mode) → ((f : ℕ) → m ≡ Partial f → f ≤ s.rows.count)
       → (p : ℕ) → IsRestart c s.rows m p → In p (restart_points c s.rows m)
   points_all Complete l p h = subst (λ x. In x (0 ∷ [])) (sym h) here
   points_all (Partial f) l p (inl h) =
-      in_left p (start-point c s o f) (savepoints c s o f) (start-in c s o f (l f refl) p h)
+      in_left p (start_point c s o f) (savepoints c s o f) (start_in c s o f (l f refl) p h)
   points_all (Partial f) l p (inr h) =
-      in_right p (start-point c s o f) (savepoints c s o f) (savepoint-in c s o f p h)
+      in_right p (start_point c s o f) (savepoints c s o f) (savepoint_in c s o f p h)
 
   points_rise : (m : Mode) → Ascends ◌<◌ (restart_points c s.rows m)
   points_rise Complete = one_rises 0
-  points_rise (Partial f) = parts-rise c s o f
+  points_rise (Partial f) = parts_rise c s o f
 
 pub listing_is : (c : Chart) (s : Sheet) → Orderly s → ModeKnown s → ListingIs c s
 listing_is c s o known = record {

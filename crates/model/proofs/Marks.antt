@@ -32,38 +32,38 @@ module _ (s : Sheet) (k : ℕ) (fs : List ℕ) (e : Entry) (o : Orderly s)
   new = added s.rows k fs e
 
   -- a state that the new row is not in is an old row's
-  old-state : (j : ℕ) (st : RowState) → same_state Running st ≡ false → new.state j ≡ st → s.rows.state j ≡ st
-  old-state j st n =
+  old_state : (j : ℕ) (st : RowState) → same_state Running st ≡ false → new.state j ≡ st → s.rows.state j ≡ st
+  old_state j st n =
       put_cases (λ x. x ≡ st → s.rows.state j ≡ st) s.rows.state (s.rows.count + 1) Running j
       (λ _ h. absurd (not_both Running st n refl h)) (λ _ h. h)
 
   -- a committed row stays so
-  still-committed : (j : ℕ) → s.rows.state j ≡ Committed → new.state j ≡ Committed
-  still-committed j h =
+  still_committed : (j : ℕ) → s.rows.state j ≡ Committed → new.state j ≡ Committed
+  still_committed j h =
       let low = numbered s o j Committed refl h in
       put_other s.rows.state (s.rows.count + 1) Running j (λ e. omega arith) ∙ h
 
-  start-inside : (j : ℕ) → (new.state j ≡ Absent → ⊥) → (1 ≤ j) × (j ≤ new.count)
-  start-inside =
+  start_inside : (j : ℕ) → (new.state j ≡ Absent → ⊥) → (1 ≤ j) × (j ≤ new.count)
+  start_inside =
       put_all (λ j x. (x ≡ Absent → ⊥) → (1 ≤ j) × (j ≤ new.count)) s.rows.state (s.rows.count + 1) Running
       (λ j h. let (one, low) = o.inside j h in (one, omega arith)) (λ _. (omega arith, omega arith))
 
-  start-present : (j : ℕ) → 1 ≤ j → j ≤ new.count → new.state j ≡ Absent → ⊥
-  start-present j one low =
+  start_present : (j : ℕ) → 1 ≤ j → j ≤ new.count → new.state j ≡ Absent → ⊥
+  start_present j one low =
       put_cases (λ x. x ≡ Absent → ⊥) s.rows.state (s.rows.count + 1) Running j
       (λ _. not_both Running Absent refl refl) (λ n. o.present j one (omega arith))
 
-  start-rows-only : (j : ℕ) → new.count < j → new.preds j ≡ []
-  start-rows-only j above =
+  start_rows_only : (j : ℕ) → new.count < j → new.preds j ≡ []
+  start_rows_only j above =
       put_other s.rows.preds (s.rows.count + 1) fs j (λ e. omega arith) ∙ o.rows_only j (omega arith)
 
-  start-lower : Lower new.preds
-  start-lower =
+  start_lower : Lower new.preds
+  start_lower =
       put_all (λ v xs. (w : ℕ) → has w xs ≡ true → w < v) s.rows.preds (s.rows.count + 1) fs o.lower
       (λ w m. let low = numbered s o w Committed refl (fit w m) in omega arith)
 
-  start-committed : (v w : ℕ) → live (new.state v) ≡ true → has w (new.preds v) ≡ true → new.state w ≡ Committed
-  start-committed v w h m = still-committed w (go (eqb v (s.rows.count + 1)) h m)
+  start_committed : (v w : ℕ) → live (new.state v) ≡ true → has w (new.preds v) ≡ true → new.state w ≡ Committed
+  start_committed v w h m = still_committed w (go (eqb v (s.rows.count + 1)) h m)
     where
       go : (t : Bool) → live (cond t Running (s.rows.state v)) ≡ true → has w (cond t fs (s.rows.preds v)) ≡ true
           → s.rows.state w ≡ Committed
@@ -71,46 +71,46 @@ module _ (s : Sheet) (k : ℕ) (fs : List ℕ) (e : Entry) (o : Orderly s)
       go false a b = o.committed v w a b
 
   -- an arrow to an old row is an old arrow, and so is a path
-  old-arrow : (v w : ℕ) → v ≤ s.rows.count → has w (new.preds v) ≡ true → has w (s.rows.preds v) ≡ true
-  old-arrow v w low =
+  old_arrow : (v w : ℕ) → v ≤ s.rows.count → has w (new.preds v) ≡ true → has w (s.rows.preds v) ≡ true
+  old_arrow v w low =
       put_cases (λ xs. has w xs ≡ true → has w (s.rows.preds v) ≡ true) s.rows.preds (s.rows.count + 1) fs v
       (λ e. absurd (omega arith)) (λ _ m. m)
 
-  old-path : {u v : ℕ} → v ≤ s.rows.count → After new.preds u v → After s.rows.preds u v
-  old-path {u} {v} low (next m) = next (old-arrow v u low m)
-  old-path {u} {v} low (further {w = w} p m) =
-      let a = old-arrow v w low m in
+  old_path : {u v : ℕ} → v ≤ s.rows.count → After new.preds u v → After s.rows.preds u v
+  old_path {u} {v} low (next m) = next (old_arrow v u low m)
+  old_path {u} {v} low (further {w = w} p m) =
+      let a = old_arrow v w low m in
       let b = o.lower v w a in
-      further (old-path (omega arith) p) a
+      further (old_path (omega arith) p) a
 
-  start-in-order : (u v : ℕ) → After new.preds u v → new.state u ≡ Undone → new.state v ≡ Due → ⊥
-  start-in-order u v p undone due =
-      let now = old-state v Due refl due in
-      o.in_order u v (old-path (numbered s o v Due refl now).1 p) (old-state u Undone refl undone) now
+  start_in_order : (u v : ℕ) → After new.preds u v → new.state u ≡ Undone → new.state v ≡ Due → ⊥
+  start_in_order u v p undone due =
+      let now = old_state v Due refl due in
+      o.in_order u v (old_path (numbered s o v Due refl now).1 p) (old_state u Undone refl undone) now
 
   pub start_orderly : s.rows.count < 256 → Orderly (with_rows s new)
   start_orderly room = record {
-    inside = start-inside;
-    present = start-present;
-    rows_only = start-rows-only;
-    lower = start-lower;
-    committed = start-committed;
-    none_due = λ z j h. o.none_due z j (old-state j Due refl h);
-    in_order = start-in-order;
-    due_now = λ j h. o.due_now j (old-state j Due refl h);
+    inside = start_inside;
+    present = start_present;
+    rows_only = start_rows_only;
+    lower = start_lower;
+    committed = start_committed;
+    none_due = λ z j h. o.none_due z j (old_state j Due refl h);
+    in_order = start_in_order;
+    due_now = λ j h. o.due_now j (old_state j Due refl h);
     past = o.past;
     few_rows = omega arith;
     few_rollbacks = let few = o.few_rollbacks in omega arith;
   }
 
-  start-wanes : Wanes s.rows.state new.state s.rows.count
-  start-wanes j low =
+  start_wanes : Wanes s.rows.state new.state s.rows.count
+  start_wanes j low =
       put_cases (λ x. live x ≡ true → live (s.rows.state j) ≡ true) s.rows.state (s.rows.count + 1) Running j
       (λ e. absurd (omega arith)) (λ _ a. a)
 
   pub start_spent : s.rollback ≤ gone s.rows.state s.rows.count → s.rollback ≤ gone new.state new.count
   start_spent h =
-      let rises = gone_rises s.rows.state new.state s.rows.count start-wanes in
+      let rises = gone_rises s.rows.state new.state s.rows.count start_wanes in
       let more = gone_more new.state s.rows.count in
       omega arith
 
@@ -141,28 +141,28 @@ module _ (s : Sheet) (k : ℕ) (old new : RowState) (o : Orderly s) (turn : Turn
   abbrev turned : ℕ → RowState
   turned = at_put s.rows.state k new
 
-  mark-inside : (j : ℕ) → (turned j ≡ Absent → ⊥) → (1 ≤ j) × (j ≤ s.rows.count)
-  mark-inside =
+  mark_inside : (j : ℕ) → (turned j ≡ Absent → ⊥) → (1 ≤ j) × (j ≤ s.rows.count)
+  mark_inside =
       put_all (λ j x. (x ≡ Absent → ⊥) → (1 ≤ j) × (j ≤ s.rows.count)) s.rows.state k new
       o.inside (λ _. numbered s o k old turn.was_row was)
 
-  mark-present : (j : ℕ) → 1 ≤ j → j ≤ s.rows.count → turned j ≡ Absent → ⊥
-  mark-present =
+  mark_present : (j : ℕ) → 1 ≤ j → j ≤ s.rows.count → turned j ≡ Absent → ⊥
+  mark_present =
       put_all (λ j x. 1 ≤ j → j ≤ s.rows.count → x ≡ Absent → ⊥) s.rows.state k new
       o.present (λ _ _. not_both new Absent turn.is_row refl)
 
-  mark-wanes : (j : ℕ) → live (turned j) ≡ true → live (s.rows.state j) ≡ true
-  mark-wanes =
+  mark_wanes : (j : ℕ) → live (turned j) ≡ true → live (s.rows.state j) ≡ true
+  mark_wanes =
       put_all (λ j x. live x ≡ true → live (s.rows.state j) ≡ true) s.rows.state k new
       (λ _ a. a) (λ a. ap live was ∙ turn.was_live a)
 
-  mark-due : (j : ℕ) → turned j ≡ Due → s.rows.state j ≡ Due
-  mark-due =
+  mark_due : (j : ℕ) → turned j ≡ Due → s.rows.state j ≡ Due
+  mark_due =
       put_all (λ j x. x ≡ Due → s.rows.state j ≡ Due) s.rows.state k new
       (λ _ h. h) (λ h. absurd (not_both new Due turn.is_not_due refl h))
 
-  mark-committed : (v w : ℕ) → live (turned v) ≡ true → has w (s.rows.preds v) ≡ true → turned w ≡ Committed
-  mark-committed v w a m = stays w (o.committed v w (mark-wanes v a) m)
+  mark_committed : (v w : ℕ) → live (turned v) ≡ true → has w (s.rows.preds v) ≡ true → turned w ≡ Committed
+  mark_committed v w a m = stays w (o.committed v w (mark_wanes v a) m)
     where
       stays : (j : ℕ) → s.rows.state j ≡ Committed → turned j ≡ Committed
       stays = put_all (λ j x. s.rows.state j ≡ Committed → x ≡ Committed) s.rows.state k new
@@ -172,23 +172,23 @@ module _ (s : Sheet) (k : ℕ) (old new : RowState) (o : Orderly s) (turn : Turn
   abbrev pub Free : Type 0
   Free = new ≡ Undone → (v : ℕ) → After s.rows.preds k v → s.rows.state v ≡ Due → ⊥
 
-  mark-in-order : Free → (u v : ℕ) → After s.rows.preds u v → turned u ≡ Undone → turned v ≡ Due → ⊥
-  mark-in-order free u v p undone due =
-      let was_due = mark-due v due in
+  mark_in_order : Free → (u v : ℕ) → After s.rows.preds u v → turned u ≡ Undone → turned v ≡ Due → ⊥
+  mark_in_order free u v p undone due =
+      let was_due = mark_due v due in
       put_cases (λ x. x ≡ Undone → ⊥) s.rows.state k new u
       (λ e h. free h v (subst (λ j. After s.rows.preds j v) e p) was_due)
       (λ _ h. o.in_order u v p h was_due) undone
 
   pub mark_orderly : Free → Orderly (with_rows s (marked s.rows k new))
   mark_orderly free = record {
-    inside = mark-inside;
-    present = mark-present;
+    inside = mark_inside;
+    present = mark_present;
     rows_only = o.rows_only;
     lower = o.lower;
-    committed = mark-committed;
-    none_due = λ z j h. o.none_due z j (mark-due j h);
-    in_order = mark-in-order free;
-    due_now = λ j h. o.due_now j (mark-due j h);
+    committed = mark_committed;
+    none_due = λ z j h. o.none_due z j (mark_due j h);
+    in_order = mark_in_order free;
+    due_now = λ j h. o.due_now j (mark_due j h);
     past = o.past;
     few_rows = o.few_rows;
     few_rollbacks = o.few_rollbacks;
@@ -196,7 +196,7 @@ module _ (s : Sheet) (k : ℕ) (old new : RowState) (o : Orderly s) (turn : Turn
 
   pub mark_spent : s.rollback ≤ gone s.rows.state s.rows.count → s.rollback ≤ gone turned s.rows.count
   mark_spent h =
-      let rises = gone_rises s.rows.state turned s.rows.count (λ j _. mark-wanes j) in
+      let rises = gone_rises s.rows.state turned s.rows.count (λ j _. mark_wanes j) in
       omega arith
 
 -- ── finish, park and resume ──

@@ -16,7 +16,7 @@ use Rattle.model.specs.Chart.{Chart, step_at}
 use Rattle.model.specs.Rows.{Rows}
 use Rattle.model.specs.Sheet.{Sheet}
 use Rattle.model.specs.Report.{highest_below, shown, reply_widths, reply_fields, reply_bytes, reply_of}
-use Rattle.model.specs.Replies.{fields_of, Tells, private-step, no_row, highest-row, ReplyTells}
+use Rattle.model.specs.Replies.{fields_of, Tells, private_step, no_row, highest_row, ReplyTells}
 use Rattle.model.specs.Sheets.{Orderly}
 use Rattle.model.proofs.Basics.{same_state_eq, eq_same_state}
 
@@ -83,7 +83,7 @@ tells_below c r k p a (suc n) h none =
     here : (n : ℕ) → suc n ≤ r.count + 1 → ((i : ℕ) → suc n ≤ i → i ≤ r.count → r.step i ≡ k → ⊥) → r.step n ≡ k
         → Tells c r k (row_state_number (r.state n))
     here zero h none e = subst (λ st. Tells c r k (row_state_number st)) (sym a) (no_row p none)
-    here (suc n) h none e = highest-row p (omega arith) (omega arith) e none
+    here (suc n) h none e = highest_row p (omega arith) (omega arith) e none
 
     below : (n : ℕ) → ((i : ℕ) → suc n ≤ i → i ≤ r.count → r.step i ≡ k → ⊥) → (r.step n ≡ k → ⊥)
         → (i : ℕ) → n ≤ i → i ≤ r.count → r.step i ≡ k → ⊥
@@ -104,7 +104,7 @@ tells_shown : (c : Chart) (s : Sheet) → Orderly s → (k : ℕ) → Tells c s.
 tells_shown c s o k =
     let r = s.rows in
     elim (cases_Bool (step_at c k).private) [
-      | inl e ↦ subst (Tells c r k) (sym (cond-true _ _ _ e)) (private-step e)
+      | inl e ↦ subst (Tells c r k) (sym (cond-true _ _ _ e)) (private_step e)
       | inr e ↦ subst (Tells c r k) (sym (cond-false _ _ _ e))
           (tells_below c r k e (no_row_0 s o) (r.count + 1) (omega arith) (λ i l m. absurd (omega arith)))
     ]
@@ -132,8 +132,8 @@ phase_small p = grind arith
 
 fields_fit : (c : Chart) (s : Sheet) → Orderly s → length c.0 ≤ 64 → Fit reply_widths (reply_fields c s)
 fields_fit c s o l =
-    let shown-fit = fit_column 64 3 (λ i. shown c s (i + 1)) (λ i. shown_small c s (i + 1)) in
-    let last_Fit = fit_append (replicate 64 3) (32 ∷ []) (step_fields c s) (0 ∷ []) shown-fit (omega arith, tt) in
+    let shown_fit = fit_column 64 3 (λ i. shown c s (i + 1)) (λ i. shown_small c s (i + 1)) in
+    let last_Fit = fit_append (replicate 64 3) (32 ∷ []) (step_fields c s) (0 ∷ []) shown_fit (omega arith, tt) in
     (omega arith, (phase_small s.phase, (omega arith, (omega arith, last_Fit))))
 
 -- the bytes have the fields that were packed

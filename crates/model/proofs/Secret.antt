@@ -103,14 +103,14 @@ idle_same : (c : Chart) (r : Rows) (en : ℕ → Entry) → PublicSame c r en �
     → idle c (with_entries r en) k ≡ idle c r k
 idle_same c r en p k = go (step_at c (r.step k)).private (p k)
   where
-    no-counterpart : Bool
-    no-counterpart = not (step_at c (r.step k)).counterpart
+    no_counterpart : Bool
+    no_counterpart = not (step_at c (r.step k)).counterpart
 
     go : (private : Bool) → (private ≡ false → en k ≡ r.entry k)
-        → (no-counterpart || (not private && not (is_some (en k).number)))
-        ≡ (no-counterpart || (not private && not (is_some (r.entry k).number)))
+        → (no_counterpart || (not private && not (is_some (en k).number)))
+        ≡ (no_counterpart || (not private && not (is_some (r.entry k).number)))
     go true e = refl
-    go false e = ap (λ (x : Entry). no-counterpart || not (is_some x.number)) (e refl)
+    go false e = ap (λ (x : Entry). no_counterpart || not (is_some x.number)) (e refl)
 
 aborted_same : (c : Chart) (s : Sheet) (en : ℕ → Entry) (m : Mode) → PublicSame c s.rows en
     → aborted c (sheet_with s en) m ≡ sheet_with (aborted c s m) en
@@ -147,13 +147,13 @@ public_put c r n k a b en p e j h = go (eqb j n) h
 module _ (c : Chart) (w : World) (en : ℕ → Entry) (kept : RowKey → Option Entry)
     (p : PublicSame c w.sheet.rows en) where
   -- with one entry or another of the same kind, both lawful or neither, and the same where the step is public
-  twins-start : (k : ℕ) (fs : List ℕ) (a b : Entry) → b.kind ≡ a.kind
+  twins_start : (k : ℕ) (fs : List ℕ) (a b : Entry) → b.kind ≡ a.kind
       → lawful (step_at c k) b ≡ lawful (step_at c k) a → ((step_at c k).private ≡ false → b ≡ a)
       → TwinResults c (does c w (start k fs a)) (does c (world_with w en kept) (start k fs b))
-  twins-start k fs a b kinds fair e =
+  twins_start k fs a b kinds fair e =
       decided c _ (ap₂ (start_fault c w.sheet w.host k fs) fair kinds) refl (plain p) (record {
         on-sheet = refl;
-        on-host = ap (λ kind. host_with (begun w.host n (of-kind kind)) (put kept n (Some b))) kinds;
+        on-host = ap (λ kind. host_with (begun w.host n (of_kind kind)) (put kept n (Some b))) kinds;
         on-lent = refl;
         public = public_put c w.sheet.rows (w.sheet.rows.count + 1) k a b en p e;
       })
@@ -161,11 +161,11 @@ module _ (c : Chart) (w : World) (en : ℕ → Entry) (kept : RowKey → Option 
       n : RowKey
       n = key_of (w.sheet.rows.count + 1)
 
-      of-kind : Kind → Entry
-      of-kind kind = record { kind = kind; number = b.number }
+      of_kind : Kind → Entry
+      of_kind kind = record { kind = kind; number = b.number }
 
-  twins-abort : (m : Mode) → TwinResults c (does c w (abort m)) (does c (world_with w en kept) (abort m))
-  twins-abort m =
+  twins_abort : (m : Mode) → TwinResults c (does c w (abort m)) (does c (world_with w en kept) (abort m))
+  twins_abort m =
       decided c _ faults refl (plain p) (record {
         on-sheet = aborted_same c w.sheet en m p;
         on-host = all_dropped_same w.sheet.rows w.host kept;
@@ -177,8 +177,8 @@ module _ (c : Chart) (w : World) (en : ℕ → Entry) (kept : RowKey → Option 
           ≡ abort_fault w.sheet w.host m (length w.lent.column) w.lent.line
       faults = abort_fault_same w.sheet en w.host m (length w.lent.column) w.lent.line
 
-  twins-listing : TwinResults c (does c w listing) (does c (world_with w en kept) listing)
-  twins-listing =
+  twins_listing : TwinResults c (does c w listing) (does c (world_with w en kept) listing)
+  twins_listing =
       decided c _ (ap fault points) (ap (λ ps. Listed arrows (length ps)) points) (plain p) (record {
         on-sheet = refl;
         on-host = refl;
@@ -210,25 +210,25 @@ module _ (c : Chart) (w : World) (en : ℕ → Entry) (kept : RowKey → Option 
         buffer = l.buffer;
       }
 
-  twins-does : (e : Event) → TwinResults c (does c w e) (does c (world_with w en kept) e)
-  twins-does (start k fs a) = twins-start k fs a a refl refl (λ _. refl)
-  twins-does (end k) = decided c (end_fault w.sheet w.host k) refl refl (plain p) (plain p)
-  twins-does (abort m) = twins-abort m
-  twins-does (undo t k) =
+  twins_does : (e : Event) → TwinResults c (does c w e) (does c (world_with w en kept) e)
+  twins_does (start k fs a) = twins_start k fs a a refl refl (λ _. refl)
+  twins_does (end k) = decided c (end_fault w.sheet w.host k) refl refl (plain p) (plain p)
+  twins_does (abort m) = twins_abort m
+  twins_does (undo t k) =
       decided c (undo_fault w.sheet w.host t k (length w.lent.column) w.lent.line) refl refl
       (plain p) (plain p)
-  twins-does (finish t) = decided c (finish_fault w.sheet t) refl refl (plain p) (plain p)
-  twins-does (park t) = decided c (park_fault w.sheet t) refl refl (plain p) (plain p)
-  twins-does resume = decided c (resume_fault w.sheet) refl refl (plain p) (plain p)
-  twins-does listing = twins-listing
-  twins-does (reply place) = decided c (reply_fault place (length w.lent.buffer)) refl refl (plain p) (plain p)
-  twins-does (lend l) = record { worlds = plain p; answer = refl }
-  twins-does (control b) = record { worlds = plain p; answer = refl }
+  twins_does (finish t) = decided c (finish_fault w.sheet t) refl refl (plain p) (plain p)
+  twins_does (park t) = decided c (park_fault w.sheet t) refl refl (plain p) (plain p)
+  twins_does resume = decided c (resume_fault w.sheet) refl refl (plain p) (plain p)
+  twins_does listing = twins_listing
+  twins_does (reply place) = decided c (reply_fault place (length w.lent.buffer)) refl refl (plain p) (plain p)
+  twins_does (lend l) = record { worlds = plain p; answer = refl }
+  twins_does (control b) = record { worlds = plain p; answer = refl }
 
-  twins-alike : {e f : Event} → Alike c e f → TwinResults c (does c w e) (does c (world_with w en kept) f)
-  twins-alike (same {e = e}) = twins-does e
-  twins-alike (swapped {k = k} {fs = fs} {a = a} {b = b} private la lb) =
-      twins-start k fs a b (lawful_kind (step_at c k) b lb ∙ sym (lawful_kind (step_at c k) a la)) (lb ∙ sym la)
+  twins_alike : {e f : Event} → Alike c e f → TwinResults c (does c w e) (does c (world_with w en kept) f)
+  twins_alike (same {e = e}) = twins_does e
+  twins_alike (swapped {k = k} {fs = fs} {a = a} {b = b} private la lb) =
+      twins_start k fs a b (lawful_kind (step_at c k) b lb ∙ sym (lawful_kind (step_at c k) a la)) (lb ∙ sym la)
       (λ h. absurd (both_ways (step_at c k).private h private))
 
 -- ── many events ──
@@ -236,11 +236,11 @@ module _ (c : Chart) (w : World) (en : ℕ → Entry) (kept : RowKey → Option 
 twin_does : (c : Chart) {e f : Event} → Alike c e f → (w v : World) → Twin c w v
     → TwinResults c (does c w e) (does c v f)
 twin_does c {e} {f} h w v t =
-    subst (λ u. TwinResults c (does c w e) (does c u f)) (sym v-is)
-    (twins-alike c w v.sheet.rows.entry v.host.entry t.public h)
+    subst (λ u. TwinResults c (does c w e) (does c u f)) (sym v_is)
+    (twins_alike c w v.sheet.rows.entry v.host.entry t.public h)
   where
-    v-is : v ≡ world_with w v.sheet.rows.entry v.host.entry
-    v-is = λ i. record { sheet = t.on-sheet i; host = t.on-host i; lent = t.on-lent i }
+    v_is : v ≡ world_with w v.sheet.rows.entry v.host.entry
+    v_is = λ i. record { sheet = t.on-sheet i; host = t.on-host i; lent = t.on-lent i }
 
 twin_runs : (c : Chart) {es fs : List Event} → AllAlike c es fs → (w v : World) → Twin c w v
     → Twin c (runs c w es).0 (runs c v fs).0

@@ -31,18 +31,18 @@ has_kept p k (x ∷ xs) =
     let rest = has_kept p k xs in
     elim (cases_eq k x) [
       | inl e ↦ let same = ap p e in let met = eq-eqb k x e in grind arith
-      | inr n ↦ let not-met = ne_eqb k x n in grind arith
+      | inr n ↦ let not_met = ne_eqb k x n in grind arith
     ]
 
 module _ (c : Chart) (r : Rows) where
-  uncut-out : (u v : ℕ) → has u (uncut c r v) ≡ true → (has u (r.preds v) ≡ true) × (is_savepoint c r u ≡ false)
-  uncut-out u v h =
+  uncut_out : (u v : ℕ) → has u (uncut c r v) ≡ true → (has u (r.preds v) ≡ true) × (is_savepoint c r u ≡ false)
+  uncut_out u v h =
       let e = sym (has_kept (λ w. not (is_savepoint c r w)) u (r.preds v)) ∙ h in
       let (m, q) = and_parts (has u (r.preds v)) (not (is_savepoint c r u)) e in
       (m, not-true (is_savepoint c r u) q)
 
-  uncut-in : (u v : ℕ) → has u (r.preds v) ≡ true → is_savepoint c r u ≡ false → has u (uncut c r v) ≡ true
-  uncut-in u v m q =
+  uncut_in : (u v : ℕ) → has u (r.preds v) ≡ true → is_savepoint c r u ≡ false → has u (uncut c r v) ≡ true
+  uncut_in u v m q =
       has_kept (λ w. not (is_savepoint c r w)) u (r.preds v)
       ∙ and_from (has u (r.preds v)) (not (is_savepoint c r u)) m (not_from_false (is_savepoint c r u) q)
 
@@ -51,31 +51,31 @@ module _ (c : Chart) (r : Rows) where
   nearer m q (near k h) = far (near m q) k h
   nearer m q (far b k h) = far (nearer m q b) k h
 
-  to-backward : {u f : ℕ} → After (uncut c r) u f → Backward c r f u
-  to-backward {u} {f} (next m) = let (k, q) = uncut-out u f m in near k q
-  to-backward {u} {f} (further {w = x} p m) = let (k, q) = uncut-out x f m in nearer k q (to-backward p)
+  to_backward : {u f : ℕ} → After (uncut c r) u f → Backward c r f u
+  to_backward {u} {f} (next m) = let (k, q) = uncut_out u f m in near k q
+  to_backward {u} {f} (further {w = x} p m) = let (k, q) = uncut_out x f m in nearer k q (to_backward p)
 
-  from-backward : {f u : ℕ} → Backward c r f u → After (uncut c r) u f
-  from-backward {f} (near {u = u} m q) = next (uncut-in u f m q)
-  from-backward (far {x = x} {u = u} b m q) = joined (uncut c r) (next (uncut-in u x m q)) (from-backward b)
+  from_backward : {f u : ℕ} → Backward c r f u → After (uncut c r) u f
+  from_backward {f} (near {u = u} m q) = next (uncut_in u f m q)
+  from_backward (far {x = x} {u = u} b m q) = joined (uncut c r) (next (uncut_in u x m q)) (from_backward b)
 
   -- a row that has a backward part has a predecessor
-  some-pred : {f u : ℕ} → Backward c r f u → (w : ℕ) × (has w (r.preds f) ≡ true)
-  some-pred (near {u = u} m q) = (u, m)
-  some-pred (far b m q) = some-pred b
+  some_pred : {f u : ℕ} → Backward c r f u → (w : ℕ) × (has w (r.preds f) ≡ true)
+  some_pred (near {u = u} m q) = (u, m)
+  some_pred (far b m q) = some_pred b
 
 -- for every row f, whatever its state
 pub backward_is : (c : Chart) (s : Sheet) → Orderly s → (f u : ℕ)
     → Decides (backward c s.rows f u) (Backward c s.rows f u)
 backward_is c s o f u = (
-  (λ h. to-backward c s.rows (sound_from (uncut c s.rows) u s.rows.count f h)),
-  (λ b. let (w, m) = some-pred c s.rows b in
+  (λ h. to_backward c s.rows (sound_from (uncut c s.rows) u s.rows.count f h)),
+  (λ b. let (w, m) = some_pred c s.rows b in
       complete_from (uncut c s.rows) low u s.rows.count f (follower_numbered s o f w m)
-      (from-backward c s.rows b)),
+      (from_backward c s.rows b)),
 )
   where
     low : Lower (uncut c s.rows)
-    low v w m = o.lower v w (uncut-out c s.rows w v m).0
+    low v w m = o.lower v w (uncut_out c s.rows w v m).0
 
 -- ── the struck set ──
 
@@ -94,20 +94,20 @@ module _ (c : Chart) (s : Sheet) (o : Orderly s) (f : ℕ) (running : s.rows.sta
   committed (near {u = u} m q) = o.committed f u (ap live running) m
   committed (far {x = x} {u = u} b m q) = o.committed x u (ap live (committed b)) m
 
-  struck-if : (u : ℕ) → r.state u ≡ Committed → (part u || after r part u) ≡ true → Struck u
-  struck-if u h e = and_from (in_state r Committed u) (part u || after r part u) (eq_same_state _ _ h) e
+  struck_if : (u : ℕ) → r.state u ≡ Committed → (part u || after r part u) ≡ true → Struck u
+  struck_if u h e = and_from (in_state r Committed u) (part u || after r part u) (eq_same_state _ _ h) e
 
-  struck-part : (u : ℕ) → Backward c r f u → Struck u
-  struck-part u b = struck-if u (committed b) (or_left (part u) (after r part u) ((backward_is c s o f u).1 b))
+  struck_part : (u : ℕ) → Backward c r f u → Struck u
+  struck_part u b = struck_if u (committed b) (or_left (part u) (after r part u) ((backward_is c s o f u).1 b))
 
-  struck-later : (x v : ℕ) → Backward c r f x → After r.preds x v → r.state v ≡ Committed → Struck v
-  struck-later x v b p h =
-      struck-if v h (or_right (part v) (after r part v) (after_found s o part x v ((backward_is c s o f x).1 b) p))
+  struck_later : (x v : ℕ) → Backward c r f x → After r.preds x v → r.state v ≡ Committed → Struck v
+  struck_later x v b p h =
+      struck_if v h (or_right (part v) (after r part v) (after_found s o part x v ((backward_is c s o f x).1 b) p))
 
   -- a struck row is in the backward part, or after a row of it
-  from-struck : (u : ℕ) → Struck u
+  from_struck : (u : ℕ) → Struck u
       → Backward c r f u ⊎ ((x : ℕ) × Backward c r f x × After r.preds x u × (r.state u ≡ Committed))
-  from-struck u h =
+  from_struck u h =
       let (st, e) = and_parts (in_state r Committed u) (part u || after r part u) h in
       elim (or_cases (part u) (after r part u) e) [
         | inl a ↦ inl ((backward_is c s o f u).0 a)
@@ -116,16 +116,16 @@ module _ (c : Chart) (s : Sheet) (o : Orderly s) (f : ℕ) (running : s.rows.sta
             inr (x, (backward_is c s o f x).0 q, p, same_state_eq _ _ st)
       ]
 
-  struck-set : StruckSet c r f (strikes c r (Partial f))
-  struck-set = record {
+  struck_set : StruckSet c r f (strikes c r (Partial f))
+  struck_set = record {
     closed = record {
-      has_part = struck-part;
-      has_later = λ u v h p e. elim (from-struck u h) [
-        | inl b ↦ struck-later u v b p e
-        | inr t ↦ struck-later t.0 v t.1 (joined r.preds t.2 p) e
+      has_part = struck_part;
+      has_later = λ u v h p e. elim (from_struck u h) [
+        | inl b ↦ struck_later u v b p e
+        | inr t ↦ struck_later t.0 v t.1 (joined r.preds t.2 p) e
       ];
     };
-    least = λ R k u h. elim (from-struck u h) [
+    least = λ R k u h. elim (from_struck u h) [
       | inl b ↦ k.has_part u b
       | inr t ↦ k.has_later t.0 u (k.has_part t.0 t.1) t.2 t.3
     ];
@@ -134,7 +134,7 @@ module _ (c : Chart) (s : Sheet) (o : Orderly s) (f : ℕ) (running : s.rows.sta
 pub struck_is_struck : (c : Chart) (s : Sheet) → Orderly s → StruckIsStruck c s
 struck_is_struck c s o = record {
   part = λ f u _. backward_is c s o f u;
-  set = λ f running. struck-set c s o f running;
+  set = λ f running. struck_set c s o f running;
 }
 
 -- ── what becomes of each row ──

@@ -154,10 +154,10 @@ resume_fault s = first_fault (phase_check s Parked ∷ [])
 
 -- in memory of these lengths, with so many arrows and restart points to write
 abbrev pub listing_fault : Sheet → ℕ → ℕ → ℕ → ℕ → ℕ → ℕ → Option Fault
-listing_fault s column line arrow-room restart-room arrows restarts =
+listing_fault s column line arrow_room restart_room arrows restarts =
     first_fault (memory_check column line
     ∷ bad (same_phase s.phase Forward) WrongPhase OfSheet (phase_number s.phase)
-    ∷ bad (not (nat_le arrows arrow-room && nat_le restarts restart-room)) ShortMemory OfSheet 0
+    ∷ bad (not (nat_le arrows arrow_room && nat_le restarts restart_room)) ShortMemory OfSheet 0
     ∷ [])
 
 -- fewer than 32 bytes of a buffer lie from the place on

@@ -148,15 +148,15 @@ outcome x =
 -- an example: the first bytes of a stored process, or a rollback
 pub data Example : Type 0 where
   stores : Plan → Example
-  rolls-back : Case → Example
+  rolls_back : Case → Example
 
 pub data Shown : Type 0 where
-  first-bytes : List ℕ → Shown
-  came-to : Outcome → Shown
+  first_bytes : List ℕ → Shown
+  came_to : Outcome → Shown
 
 abbrev pub shows : Example → Shown
-shows (stores p) = first-bytes (take 6 (stored p))
-shows (rolls-back x) = came-to (outcome x)
+shows (stores p) = first_bytes (take 6 (stored p))
+shows (rolls_back x) = came_to (outcome x)
 
 abbrev pub no_bytes : List ℕ
 no_bytes = replicate 32 0
@@ -183,29 +183,29 @@ table =
     -- the header and the first step of the competition
     record {
       example = stores competition;
-      expected = first-bytes (0x01 ∷ 0x0A ∷ 0x02 ∷ 0x80 ∷ 0xCA ∷ 0x50 ∷ []);
+      expected = first_bytes (0x01 ∷ 0x0A ∷ 0x02 ∷ 0x80 ∷ 0xCA ∷ 0x50 ∷ []);
     }
     -- its last step fails: back to the savepoint
     ∷ record {
-      example = rolls-back (record { process = chart_of competition; before = competing full; failing = 5; next = [] });
-      expected = came-to (competition_rolled_back [] no_bytes);
+      example = rolls_back (record { process = chart_of competition; before = competing full; failing = 5; next = [] });
+      expected = came_to (competition_rolled_back [] no_bytes);
     }
     -- both rows undone, and the rollback finished: the reply
     ∷ record {
-      example = rolls-back
+      example = rolls_back
           (record { process = chart_of competition; before = competing full; failing = 5; next = undone_and_told });
-      expected = came-to (competition_rolled_back all_done told_bytes);
+      expected = came_to (competition_rolled_back all_done told_bytes);
     }
     -- an empty private row is due as a full one is
     ∷ record {
-      example = rolls-back
+      example = rolls_back
           (record { process = chart_of competition; before = competing (score None); failing = 5; next = undone_and_told });
-      expected = came-to (competition_rolled_back all_done told_bytes);
+      expected = came_to (competition_rolled_back all_done told_bytes);
     }
     -- a passed-over row between two due ones keeps their order
     ∷ record {
-      example = rolls-back (record { process = chain; before = chained; failing = 5; next = undo ticket 2 ∷ [] });
-      expected = came-to (record {
+      example = rolls_back (record { process = chain; before = chained; failing = 5; next = undo ticket 2 ∷ [] });
+      expected = came_to (record {
         struck = 2 ∷ 3 ∷ 4 ∷ [];
         due = 2 ∷ 4 ∷ [];
         arrows = row_arrow 4 2 ∷ [];
@@ -216,8 +216,8 @@ table =
     }
     -- a savepoint met forward is struck
     ∷ record {
-      example = rolls-back (record { process = fork; before = forked; failing = 5; next = [] });
-      expected = came-to (record {
+      example = rolls_back (record { process = fork; before = forked; failing = 5; next = [] });
+      expected = came_to (record {
         struck = 2 ∷ 3 ∷ 4 ∷ [];
         due = 2 ∷ 3 ∷ 4 ∷ [];
         arrows = row_arrow 3 2 ∷ row_arrow 4 2 ∷ [];
@@ -228,19 +228,19 @@ table =
     }
     -- a savepoint as the only predecessor: nothing is due, and finish is accepted
     ∷ record {
-      example = rolls-back (record {
+      example = rolls_back (record {
         process = chain;
         before = start 1 [] full ∷ end 1 ∷ start 2 (1 ∷ []) full ∷ [];
         failing = 2;
         next = finish ticket ∷ [];
       });
-      expected = came-to
+      expected = came_to
           (record { struck = []; due = []; arrows = []; points = 1 ∷ []; answers = Done ∷ []; told = no_bytes });
     }
     -- the first step fails: back to the start
     ∷ record {
-      example = rolls-back (record { process = chain; before = start 1 [] full ∷ []; failing = 1; next = [] });
-      expected = came-to
+      example = rolls_back (record { process = chain; before = start 1 [] full ∷ []; failing = 1; next = [] });
+      expected = came_to
           (record { struck = []; due = []; arrows = []; points = 0 ∷ []; answers = []; told = no_bytes });
     }
     ∷ []

@@ -18,9 +18,9 @@ step_field bytes k = slice_index (fields_of bytes) (k + 3)
 -- n is what may be told of step k: 7 of a private step; else the number of the state of its highest row, or 0 where it
 -- has no row
 pub data Tells (c : Chart) (r : Rows) (k : ℕ) : ℕ → Type 0 where
-  private-step : (step_at c k).private ≡ true → Tells c r k 7
+  private_step : (step_at c k).private ≡ true → Tells c r k 7
   no_row : (step_at c k).private ≡ false → ((j : ℕ) → 1 ≤ j → j ≤ r.count → r.step j ≢ k) → Tells c r k 0
-  highest-row : {j : ℕ} → (step_at c k).private ≡ false → 1 ≤ j → j ≤ r.count → r.step j ≡ k
+  highest_row : {j : ℕ} → (step_at c k).private ≡ false → 1 ≤ j → j ≤ r.count → r.step j ≡ k
       → ((i : ℕ) → j < i → i ≤ r.count → r.step i ≢ k) → Tells c r k (row_state_number (r.state j))
 
 pub record ReplyTells (c : Chart) (s : Sheet) : Type 0 where

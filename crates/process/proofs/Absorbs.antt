@@ -15,7 +15,7 @@ use Rattle.process.specs.Stored.{header_form, step_form, arrow_form, steps_form,
 use Rattle.process.specs.Reading.{header, step, arrow, got, moved, next, next_of, start, no_plan, with_record}
 use Rattle.process.specs.Reading.{header_at, step_at, name_length, read_arrow, Scans, Scan, more}
 use Rattle.process.specs.Good.{Good, GoodHeader, GoodStep, GoodArrow}
-use Rattle.process.specs.Front.{Front, nothing_read, read-so-far, SoFar, cursor_after, last_of}
+use Rattle.process.specs.Front.{Front, nothing_read, read_so_far, SoFar, cursor_after, last_of}
 use Rattle.process.proofs.Nexts.{next_given}
 use Rattle.process.proofs.Checks.{good_passes}
 use Rattle.process.proofs.Forms.{header_forth, step_forth, arrow_forth, step_read, arrow_read}
@@ -61,14 +61,14 @@ kind_low Fee = omega arith
 
 module _ (n m : ℕ) (p : Plan) where
   -- one step more of n
-  step-absorbed : (s : Named) (xs : List ℕ) → Nameable s → length p.steps < n
+  step_absorbed : (s : Named) (xs : List ℕ) → Nameable s → length p.steps < n
       → next (step_form s ++ xs) (cursor_after n m p)
       ≡ Ok (record {
         said = Some (step s ((cursor_after n m p).place + 2));
         rest = xs;
         cursor = cursor_after n m (with_record p (step s ((cursor_after n m p).place + 2)));
       })
-  step-absorbed s xs named less =
+  step_absorbed s xs named less =
       let c = cursor_after n m p in
       let ys = step_form s ++ xs in
       let short : length s.name < 32 = omega (arith, named.1) in
@@ -91,11 +91,11 @@ module _ (n m : ℕ) (p : Plan) where
       ∙ λ i. Ok (record { said = Some (step (said i) (c.place + 2)); rest = rest i; cursor = cursor i })
 
   -- one arrow more of m
-  arrow-absorbed : (a : Arrow) (xs : List ℕ) → Placed n a → Before (last_of no_arrow p.arrows) a → n ≤ 64
+  arrow_absorbed : (a : Arrow) (xs : List ℕ) → Placed n a → Before (last_of no_arrow p.arrows) a → n ≤ 64
       → length p.steps ≡ n → length p.arrows < m
       → next (arrow_form a ++ xs) (cursor_after n m p)
       ≡ Ok (record { said = Some (arrow a); rest = xs; cursor = cursor_after n m (with_record p (arrow a)) })
-  arrow-absorbed a xs placed rises few full less =
+  arrow_absorbed a xs placed rises few full less =
       let c = cursor_after n m p in
       let ys = arrow_form a ++ xs in
       let fh = placed.from_high in
@@ -130,40 +130,40 @@ module _ (n m : ℕ) (rest : List ℕ) (r : Result Plan Fault) where
   abbrev Goes_on : List ℕ → Plan → Type 0
   Goes_on xs p = Scans xs (cursor_after n m p) p r
 
-  steps-absorbed : (ss : List Named) (p : Plan) → All Nameable ss → length p.steps + length ss ≤ n
+  steps_absorbed : (ss : List Named) (p : Plan) → All Nameable ss → length p.steps + length ss ≤ n
       → Goes_on rest (with_steps p ss) → Goes_on (steps_form ss ++ rest) p
-  steps-absorbed [] p named fits go =
+  steps_absorbed [] p named fits go =
       subst (λ (ts : List Named). Goes_on rest (record { steps = ts; arrows = p.arrows })) (append-nil p.steps) go
-  steps-absorbed (s ∷ ss) p named fits go =
+  steps_absorbed (s ∷ ss) p named fits go =
       let q : Plan = record { steps = p.steps ++ s ∷ []; arrows = p.arrows } in
       let regroup : p.steps ++ s ∷ ss ≡ q.steps ++ ss = sym (append_assoc p.steps (s ∷ []) ss) in
-      let later = steps-absorbed ss q named.1 (omega (arith, length_push p.steps s))
+      let later = steps_absorbed ss q named.1 (omega (arith, length_push p.steps s))
       (subst (λ (ts : List Named). Goes_on rest (record { steps = ts; arrows = p.arrows })) regroup go) in
       subst (λ (xs : List ℕ). Goes_on xs p) (sym (append_assoc (step_form s) (steps_form ss) rest))
-      (more (step-absorbed n m p s (steps_form ss ++ rest) named.0 (omega arith)) later)
+      (more (step_absorbed n m p s (steps_form ss ++ rest) named.0 (omega arith)) later)
 
-  arrows-absorbed : (zs : List Arrow) (p : Plan) → All (Placed n) zs → Rising (last_of no_arrow p.arrows) zs → n ≤ 64
+  arrows_absorbed : (zs : List Arrow) (p : Plan) → All (Placed n) zs → Rising (last_of no_arrow p.arrows) zs → n ≤ 64
       → length p.steps ≡ n → length p.arrows + length zs ≤ m
       → Goes_on rest (with_arrows p zs) → Goes_on (arrows_form zs ++ rest) p
-  arrows-absorbed [] p placed rises few full fits go =
+  arrows_absorbed [] p placed rises few full fits go =
       subst (λ (ts : List Arrow). Goes_on rest (record { steps = p.steps; arrows = ts })) (append-nil p.arrows) go
-  arrows-absorbed (a ∷ zs) p placed rises few full fits go =
+  arrows_absorbed (a ∷ zs) p placed rises few full fits go =
       let q : Plan = record { steps = p.steps; arrows = p.arrows ++ a ∷ [] } in
       let regroup : p.arrows ++ a ∷ zs ≡ q.arrows ++ zs = sym (append_assoc p.arrows (a ∷ []) zs) in
-      let rises-on = subst (λ (x : Arrow). Rising x zs) (sym (last_push no_arrow p.arrows a)) rises.1 in
-      let later = arrows-absorbed zs q placed.1 rises-on few full (omega (arith, length_push p.arrows a))
+      let rises_on = subst (λ (x : Arrow). Rising x zs) (sym (last_push no_arrow p.arrows a)) rises.1 in
+      let later = arrows_absorbed zs q placed.1 rises_on few full (omega (arith, length_push p.arrows a))
       (subst (λ (ts : List Arrow). Goes_on rest (record { steps = p.steps; arrows = ts })) regroup go) in
       subst (λ (xs : List ℕ). Goes_on xs p) (sym (append_assoc (arrow_form a) (arrows_form zs) rest))
-      (more (arrow-absorbed n m p a (arrows_form zs ++ rest) placed.0 rises.0 few full (omega arith)) later)
+      (more (arrow_absorbed n m p a (arrows_form zs ++ rest) placed.0 rises.0 few full (omega arith)) later)
 
   -- arrows come once all steps are there
-  arrows-after : (p : Plan) → SoFar n m p → Goes_on rest p → Goes_on (arrows_form p.arrows ++ rest) (record { steps = p.steps; arrows = [] })
-  arrows-after p s go =
+  arrows_after : (p : Plan) → SoFar n m p → Goes_on rest p → Goes_on (arrows_form p.arrows ++ rest) (record { steps = p.steps; arrows = [] })
+  arrows_after p s go =
       ⊎_elim
       (λ less. let none = s.steps_first less in
       subst (λ (zs : List Arrow). Goes_on (arrows_form zs ++ rest) (record { steps = p.steps; arrows = [] })) (sym none)
       (subst (λ (zs : List Arrow). Goes_on rest (record { steps = p.steps; arrows = zs })) none go))
-      (λ all. arrows-absorbed p.arrows (record { steps = p.steps; arrows = [] }) s.placed s.rising s.few_steps
+      (λ all. arrows_absorbed p.arrows (record { steps = p.steps; arrows = [] }) s.placed s.rising s.few_steps
       (omega (arith, s.steps_in)) (omega (arith, s.arrows_in)) go)
       (cases_lt (length p.steps) n)
 
@@ -171,12 +171,12 @@ module _ (n m : ℕ) (rest : List ℕ) (r : Result Plan Fault) where
 pub front_scan : (xs : List ℕ) {rest : List ℕ} {c : Cursor} {p : Plan} {r : Result Plan Fault}
     → Front xs rest c p → Scans rest c p r → Scan xs r
 front_scan xs nothing_read go = go
-front_scan xs {rest = rest} {p = p} {r = r} (read-so-far n m s e) go =
+front_scan xs {rest = rest} {p = p} {r = r} (read_so_far n m s e) go =
     let sf = steps_form p.steps in
     let zf = arrows_form p.arrows in
     let head = header_form n m in
-    let arrows = arrows-after n m rest r p s go in
-    let steps = steps-absorbed n m (zf ++ rest) r p.steps no_plan s.named (omega (arith, s.steps_in)) arrows in
+    let arrows = arrows_after n m rest r p s go in
+    let steps = steps_absorbed n m (zf ++ rest) r p.steps no_plan s.named (omega (arith, s.steps_in)) arrows in
     let whole : Scan (head ++ (sf ++ (zf ++ rest))) r =
     more (header_absorbed n m (sf ++ (zf ++ rest)) s.some_steps s.few_steps s.few_arrows) steps in
     let regroup : head ++ (sf ++ (zf ++ rest)) ≡ xs =

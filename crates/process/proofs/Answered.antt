@@ -12,7 +12,7 @@ use Rattle.process.specs.Stored.{Plan, Fine, Formed, Sound, stored}
 use Rattle.process.specs.Reading.{Scan, declined, ended, expected, FirstUnfit}
 use Rattle.process.specs.Reading.{Answer, faulty, unfit, accepted}
 use Rattle.process.specs.Good.{GoodEnd}
-use Rattle.process.specs.Front.{Front, nothing_read, read-so-far, SoFar, cursor_after, FirstFault, in-record, in_step}
+use Rattle.process.specs.Front.{Front, nothing_read, read_so_far, SoFar, cursor_after, FirstFault, in_record, in_step}
 use Rattle.process.specs.Drafts.{bare_plan}
 use Rattle.process.specs.Accepted.{tables_of, Reading}
 use Rattle.process.proofs.Nexts.{next_declined}
@@ -47,7 +47,7 @@ stored_scan xs p f e =
       rising = f.rising;
     } in
     let good : GoodEnd [] c = record { begun = refl; no_step = omega arith; no_arrow_left = omega arith; none_left = refl } in
-    let front : Front xs [] c p = read-so-far n m so (e ∙ sym (append-nil (stored p))) in
+    let front : Front xs [] c p = read_so_far n m so (e ∙ sym (append-nil (stored p))) in
     front_scan xs front (ended (next_by NoRecord [] c good))
 
 -- the lowest step that is not fine is one
@@ -82,7 +82,7 @@ answer_same (accepted s u) (accepted t v) = scans_same s t
 
 -- the first fault that stands is the answer
 pub fault_answer : {xs : List ℕ} {f : Fault} → FirstFault xs f → Answer xs (Err f)
-fault_answer {xs = xs} (in-record {rest = rest} {c = c} {f = f} front e) =
+fault_answer {xs = xs} (in_record {rest = rest} {c = c} {f = f} front e) =
     faulty (front_scan xs front (declined (next_declined (expected c) rest c f e)))
 fault_answer {xs = xs} (in_step {p = p} formed e u) = unfit (stored_scan xs p formed e) u
 

@@ -79,17 +79,17 @@ module _ (c : Cursor) where
   pub none_expected : c.begun ≡ true → c.steps_left ≡ 0 → c.arrows_left ≡ 0 → expected c ≡ NoRecord
   none_expected e s a = grind (arith, nat_tests)
 
-  from-header : expected c ≡ HeaderRecord → c.begun ≡ false
-  from-header e = grind (arith, nat_tests)
+  from_header : expected c ≡ HeaderRecord → c.begun ≡ false
+  from_header e = grind (arith, nat_tests)
 
   from_step : expected c ≡ StepRecord → (c.begun ≡ true) × (0 < c.steps_left)
   from_step e = (grind (arith, nat_tests), grind (arith, nat_tests))
 
-  from-arrow : expected c ≡ ArrowRecord → (c.begun ≡ true) × (c.steps_left ≡ 0) × (0 < c.arrows_left)
-  from-arrow e = (grind (arith, nat_tests), grind (arith, nat_tests), grind (arith, nat_tests))
+  from_arrow : expected c ≡ ArrowRecord → (c.begun ≡ true) × (c.steps_left ≡ 0) × (0 < c.arrows_left)
+  from_arrow e = (grind (arith, nat_tests), grind (arith, nat_tests), grind (arith, nat_tests))
 
-  from-none : expected c ≡ NoRecord → (c.begun ≡ true) × (c.steps_left ≡ 0) × (c.arrows_left ≡ 0)
-  from-none e = (grind (arith, nat_tests), grind (arith, nat_tests), grind (arith, nat_tests))
+  from_none : expected c ≡ NoRecord → (c.begun ≡ true) × (c.steps_left ≡ 0) × (c.arrows_left ≡ 0)
+  from_none e = (grind (arith, nat_tests), grind (arith, nat_tests), grind (arith, nat_tests))
 
 module _ (xs : List ℕ) (c : Cursor) where
   -- a record that no check declines is good
@@ -102,7 +102,7 @@ module _ (xs : List ℕ) (c : Cursor) where
       let some = eqb-false (header_at xs 1) 0 values.0 in
       let spare = ltb-false 0 (header_at xs 3) form.1 in
       record {
-        first = from-header c e;
+        first = from_header c e;
         long = ltb-false (length xs) 4 w.0;
         form_is = eqb-true (header_at xs 0) 1 (not-false (eqb (header_at xs 0) 1) form.0);
         spare_is = zero_if (header_at xs 3) spare;
@@ -130,9 +130,9 @@ module _ (xs : List ℕ) (c : Cursor) where
       let to = or_parts (ltb c.steps a.to) late from.1 in
       let order = or_parts (eqb a.to 1) (not (before c.last a)) to.1 in
       record {
-        begun = (from-arrow c e).0;
-        no_step = (from-arrow c e).1;
-        wanted = (from-arrow c e).2;
+        begun = (from_arrow c e).0;
+        no_step = (from_arrow c e).1;
+        wanted = (from_arrow c e).2;
         long = ltb-false (length xs) 2 w.0;
         spare_is = zero_if (arrow_at xs 2) (ltb-false 0 (arrow_at xs 2) w.1);
         from_high = ltb-false c.steps a.from from.0;
@@ -142,9 +142,9 @@ module _ (xs : List ℕ) (c : Cursor) where
       }
   good_from NoRecord e h =
       record {
-        begun = (from-none c e).0;
-        no_step = (from-none c e).1;
-        no_arrow_left = (from-none c e).2;
+        begun = (from_none c e).0;
+        no_step = (from_none c e).1;
+        no_arrow_left = (from_none c e).2;
         none_left = zero_if (length xs) (ltb-false 0 (length xs) (none_stands_one _ _ h));
       }
 

@@ -77,14 +77,14 @@ module _ (n m : ℕ) (p : Plan) where
       let pushed = ap length (arrows_form_push p.arrows a) ∙ length-append (arrows_form p.arrows) (arrow_form a) in
       omega arith in
       let left : (m - length p.arrows) - 1 ≡ m - length q.arrows = omega (arith, length_push p.arrows a) in
-      let last-is = e ∙ sym (last_push no_arrow p.arrows a) in
+      let last_is = e ∙ sym (last_push no_arrow p.arrows a) in
       λ i. record {
         place = long i;
         begun = true;
         steps = n;
         steps_left = n - length p.steps;
         arrows_left = left i;
-        last = last-is i;
+        last = last_is i;
       }
 
 -- where it stands after the header

@@ -11,7 +11,7 @@ use Rattle.process.specs.Reading.{Record, step, arrow, Got, says, size, moved, n
 use Rattle.process.specs.Reading.{checks, got, Scans, declined, more, ended}
 use Rattle.process.specs.Reading.{header_at, word2, name_length, read_step, read_arrow}
 use Rattle.process.specs.Good.{Good, GoodHeader, GoodStep, GoodArrow, GoodEnd}
-use Rattle.process.specs.Front.{FirstFault, in-record, Front, nothing_read, read-so-far, SoFar, cursor_after}
+use Rattle.process.specs.Front.{FirstFault, in_record, Front, nothing_read, read_so_far, SoFar, cursor_after}
 use Rattle.process.proofs.Packing.{unpack_fit}
 use Rattle.process.proofs.Forms.{Bytes, bytes_drop, header_back, step_back, arrow_back}
 use Rattle.process.proofs.Fronts.{all_push, rising_push, length_push, step_cursor, arrow_cursor, header_cursor, form_step, form_arrow, form_on}
@@ -48,20 +48,20 @@ so_far_none n m lo hi few = record {
 }
 
 module _ (xs : List ℕ) where
-  front-header : (rest : List ℕ) (c : Cursor) (p : Plan) → Bytes rest → GoodHeader rest c → Front xs rest c p
+  front_header : (rest : List ℕ) (c : Cursor) (p : Plan) → Bytes rest → GoodHeader rest c → Front xs rest c p
       → Front xs (drop 4 rest) (moved HeaderRecord rest c) p
-  front-header _ _ _ b g nothing_read =
+  front_header _ _ _ b g nothing_read =
       let n = header_at xs 1 in
       let m = header_at xs 2 in
       let bytes = header_back xs b g.long g.form_is g.spare_is in
       subst (λ (c : Cursor). Front xs (drop 4 xs) c no_plan) (header_cursor n m)
-      (read-so-far n m (so_far_none n m g.some_steps g.few_steps g.few_arrows) bytes)
-  front-header rest _ p b g (read-so-far n m s e) = absurd (both_ways true g.first refl)
+      (read_so_far n m (so_far_none n m g.some_steps g.few_steps g.few_arrows) bytes)
+  front_header rest _ p b g (read_so_far n m s e) = absurd (both_ways true g.first refl)
 
-  front-step : (rest : List ℕ) (c : Cursor) (p : Plan) → Bytes rest → GoodStep rest c → Front xs rest c p
+  front_step : (rest : List ℕ) (c : Cursor) (p : Plan) → Bytes rest → GoodStep rest c → Front xs rest c p
       → Front xs (drop (size StepRecord rest) rest) (moved StepRecord rest c) (with_record p (step (read_step rest) (c.place + 2)))
-  front-step _ _ _ b g nothing_read = absurd (both_ways false refl g.begun)
-  front-step rest _ p b g (read-so-far n m s e) =
+  front_step _ _ _ b g nothing_read = absurd (both_ways false refl g.begun)
+  front_step rest _ p b g (read_so_far n m s e) =
       let t = read_step rest in
       let place = (cursor_after n m p).place + 2 in
       let long = read_name rest g.long in
@@ -83,12 +83,12 @@ module _ (xs : List ℕ) where
       let bytes = form_on (form_of n m p) _ (step_form t) xs _ rest (form_step n m p t place none)
       (step_back rest b g.long g.kind_low g.spare_is) e in
       subst (λ (c : Cursor). Front xs (drop (size StepRecord rest) rest) c (with_record p (step t place)))
-      (sym (step_cursor n m p t place rest (sym long))) (read-so-far n m so bytes)
+      (sym (step_cursor n m p t place rest (sym long))) (read_so_far n m so bytes)
 
-  front-arrow : (rest : List ℕ) (c : Cursor) (p : Plan) → Bytes rest → GoodArrow rest c → Front xs rest c p
+  front_arrow : (rest : List ℕ) (c : Cursor) (p : Plan) → Bytes rest → GoodArrow rest c → Front xs rest c p
       → Front xs (drop 2 rest) (moved ArrowRecord rest c) (with_record p (arrow (read_arrow rest)))
-  front-arrow _ _ _ b g nothing_read = absurd (both_ways false refl g.begun)
-  front-arrow rest _ p b g (read-so-far n m s e) =
+  front_arrow _ _ _ b g nothing_read = absurd (both_ways false refl g.begun)
+  front_arrow rest _ p b g (read_so_far n m s e) =
       let a = read_arrow rest in
       let placed : Placed n a = record {
         from_low = at_least_1 _;
@@ -111,19 +111,19 @@ module _ (xs : List ℕ) where
       let bytes = form_on (form_of n m p) _ (arrow_form a) xs _ rest (form_arrow n m p a)
       (arrow_back rest b g.long g.spare_is) e in
       subst (λ (c : Cursor). Front xs (drop 2 rest) c (with_record p (arrow a)))
-      (sym (arrow_cursor n m p a rest refl)) (read-so-far n m so bytes)
+      (sym (arrow_cursor n m p a rest refl)) (read_so_far n m so bytes)
 
   -- one record more
-  front-got : (e : Expected) (rest : List ℕ) (c : Cursor) (p : Plan) → Bytes rest → Good e rest c → Front xs rest c p
+  front_got : (e : Expected) (rest : List ℕ) (c : Cursor) (p : Plan) → Bytes rest → Good e rest c → Front xs rest c p
       → (i : Record) → says e rest c ≡ Some i → Front xs (drop (size e rest) rest) (moved e rest c) (with_record p i)
-  front-got HeaderRecord rest c p b g f i s =
-      subst (λ (j : Record). Front xs (drop 4 rest) (moved HeaderRecord rest c) (with_record p j)) (some_same s) (front-header rest c p b g f)
-  front-got StepRecord rest c p b g f i s =
+  front_got HeaderRecord rest c p b g f i s =
+      subst (λ (j : Record). Front xs (drop 4 rest) (moved HeaderRecord rest c) (with_record p j)) (some_same s) (front_header rest c p b g f)
+  front_got StepRecord rest c p b g f i s =
       subst (λ (j : Record). Front xs (drop (size StepRecord rest) rest) (moved StepRecord rest c) (with_record p j)) (some_same s)
-      (front-step rest c p b g f)
-  front-got ArrowRecord rest c p b g f i s =
-      subst (λ (j : Record). Front xs (drop 2 rest) (moved ArrowRecord rest c) (with_record p j)) (some_same s) (front-arrow rest c p b g f)
-  front-got NoRecord rest c p b g f i s = let z : ◌≡◌ {A = ℕ} 0 1 = cc in absurd (omega arith)
+      (front_step rest c p b g f)
+  front_got ArrowRecord rest c p b g f i s =
+      subst (λ (j : Record). Front xs (drop 2 rest) (moved ArrowRecord rest c) (with_record p j)) (some_same s) (front_arrow rest c p b g f)
+  front_got NoRecord rest c p b g f i s = let z : ◌≡◌ {A = ℕ} 0 1 = cc in absurd (omega arith)
 
   pub front_more : {rest ys : List ℕ} {c d : Cursor} {p : Plan} (i : Record) → Bytes rest → Front xs rest c p
       → next rest c ≡ Ok (record { said = Some i; rest = ys; cursor = d }) → Front xs ys d (with_record p i) × Bytes ys
@@ -132,7 +132,7 @@ module _ (xs : List ℕ) where
       let said : says (expected c) rest c ≡ Some i = sym (ap (λ (g : Got). g.said) w.1) in
       let left : drop (size (expected c) rest) rest ≡ ys = sym (ap (λ (g : Got). g.rest) w.1) in
       let cursor : moved (expected c) rest c ≡ d = sym (ap (λ (g : Got). g.cursor) w.1) in
-      let more = front-got (expected c) rest c p b w.0 f i said in (
+      let more = front_got (expected c) rest c p b w.0 f i said in (
         subst (λ (v : List ℕ). Front xs v d (with_record p i)) left
             (subst (λ (u : Cursor). Front xs (drop (size (expected c) rest) rest) u (with_record p i)) cursor more),
         subst Bytes left (bytes_drop (size (expected c) rest) rest b),
@@ -153,7 +153,7 @@ end_said NoRecord xs c s g = g
 -- at the end, the bytes are the stored form
 front_end : (xs rest : List ℕ) (c : Cursor) (p : Plan) → GoodEnd rest c → Front xs rest c p → Formed p × (xs ≡ stored p)
 front_end xs _ _ _ g nothing_read = absurd (both_ways false refl g.begun)
-front_end xs rest _ p g (read-so-far n m s e) =
+front_end xs rest _ p g (read_so_far n m s e) =
     let n_is : n ≡ length p.steps = omega (arith, g.no_step, s.steps_in) in
     let m_is : m ≡ length p.arrows = omega (arith, g.no_arrow_left, s.arrows_in) in
     let all : xs ≡ form_of n m p = e ∙ ap (λ (ys : List ℕ). form_of n m p ++ ys) (empty_if rest g.none_left) ∙ append-nil (form_of n m p) in (
@@ -171,7 +171,7 @@ front_end xs rest _ p g (read-so-far n m s e) =
 pub scan_outcome : (xs : List ℕ) {rest : List ℕ} {c : Cursor} {p : Plan} {r : Result Plan Fault}
     → Bytes rest → Front xs rest c p → Scans rest c p r → Outcome xs r
 scan_outcome xs {rest = rest} {c = c} b f (declined e) =
-    in-record f (answer_err (first_fault (checks (expected c) rest c)) (got (expected c) rest c) _ (sym e))
+    in_record f (answer_err (first_fault (checks (expected c) rest c)) (got (expected c) rest c) _ (sym e))
 scan_outcome xs b f (more {i = i} e s) = let w = front_more xs i b f e in scan_outcome xs w.1 w.0 s
 scan_outcome xs {rest = rest} {c = c} {p = p} b f (ended e) =
     let w = next_good rest c _ e in
@@ -202,10 +202,10 @@ scans_same {p = p} {q = q} (more {i = i} {ys = ys} {d = d} e s) (more {i = j} {y
     let same = ok_same (sym h ∙ e) in
     let same_item : j ≡ i = some_same (ap (λ (g : Got). g.said) same) in
     let same_rest : zs ≡ ys = ap (λ (g : Got). g.rest) same in
-    let same-cursor : f ≡ d = ap (λ (g : Got). g.cursor) same in
+    let same_cursor : f ≡ d = ap (λ (g : Got). g.cursor) same in
     scans_same s
     (subst (λ (k : Record). Scans ys d (with_record p k) q) same_item
-    (subst (λ (k : Cursor). Scans ys k (with_record p j) q) same-cursor
+    (subst (λ (k : Cursor). Scans ys k (with_record p j) q) same_cursor
     (subst (λ (v : List ℕ). Scans v f (with_record p j) q) same_rest t)))
 scans_same (more e s) (ended h) = absurd (said_apart (sym e ∙ h) refl refl)
 scans_same (ended e) (declined h) = absurd (err_not_ok (sym h ∙ e))

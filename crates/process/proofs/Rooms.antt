@@ -81,9 +81,9 @@ shorter_by : (n : ℕ) (xs : List ℕ) → 2 ≤ n → n ≤ length xs → lengt
 shorter_by n xs lo hi = simp length-drop (omega arith)
 
 module _ (xs : List ℕ) (c : Cursor) (a b : ℕ) (r : Room c a b) where
-  onward-got : (e : Expected) → Good e xs c → (i : Record) → says e xs c ≡ Some i
+  onward_got : (e : Expected) → Good e xs c → (i : Record) → says e xs c ≡ Some i
       → Onward xs a b i (drop (size e xs) xs) (moved e xs c)
-  onward-got HeaderRecord g i s =
+  onward_got HeaderRecord g i s =
       let none = r.0 g.first in
       subst (λ (j : Record). Onward xs a b j (drop 4 xs) (moved HeaderRecord xs c)) (some_same s) (record {
         steps_fit = omega (arith, none.0);
@@ -91,7 +91,7 @@ module _ (xs : List ℕ) (c : Cursor) (a b : ℕ) (r : Room c a b) where
         room = (λ (f : true ≡ false). absurd (both_ways true f refl), λ t. (room_by none g.few_steps g.few_arrows));
         shorter = shorter_by 4 xs (omega arith) g.long;
       })
-  onward-got StepRecord g i s =
+  onward_got StepRecord g i s =
       let left = r.1 g.begun in
       subst (λ (j : Record). Onward xs a b j (drop (size StepRecord xs) xs) (moved StepRecord xs c)) (some_same s) (record {
         steps_fit = omega (arith, left.0, g.wanted);
@@ -99,7 +99,7 @@ module _ (xs : List ℕ) (c : Cursor) (a b : ℕ) (r : Room c a b) where
         room = (λ f. absurd (both_ways c.begun f g.begun), λ t. (omega (arith, left.0, g.wanted), omega (arith, left.1)));
         shorter = shorter_by (size StepRecord xs) xs (at_least_2 (name_length xs)) g.long;
       })
-  onward-got ArrowRecord g i s =
+  onward_got ArrowRecord g i s =
       let left = r.1 g.begun in
       subst (λ (j : Record). Onward xs a b j (drop 2 xs) (moved ArrowRecord xs c)) (some_same s) (record {
         steps_fit = omega (arith, left.0);
@@ -107,7 +107,7 @@ module _ (xs : List ℕ) (c : Cursor) (a b : ℕ) (r : Room c a b) where
         room = (λ f. absurd (both_ways c.begun f g.begun), λ t. (omega (arith, left.0), omega (arith, left.1, g.wanted)));
         shorter = shorter_by 2 xs (omega arith) g.long;
       })
-  onward-got NoRecord g i s = let z : ◌≡◌ {A = ℕ} 0 1 = cc in absurd (omega arith)
+  onward_got NoRecord g i s = let z : ◌≡◌ {A = ℕ} 0 1 = cc in absurd (omega arith)
 
   pub onward : (i : Record) (ys : List ℕ) (d : Cursor) → next xs c ≡ Ok (record { said = Some i; rest = ys; cursor = d })
       → Onward xs a b i ys d
@@ -117,7 +117,7 @@ module _ (xs : List ℕ) (c : Cursor) (a b : ℕ) (r : Room c a b) where
       let rest : drop (size (expected c) xs) xs ≡ ys = sym (ap (λ (g : Got). g.rest) w.1) in
       let cursor : moved (expected c) xs c ≡ d = sym (ap (λ (g : Got). g.cursor) w.1) in
       subst (λ (v : List ℕ). Onward xs a b i v d) rest
-      (subst (λ (u : Cursor). Onward xs a b i (drop (size (expected c) xs) xs) u) cursor (onward-got (expected c) w.0 i said))
+      (subst (λ (u : Cursor). Onward xs a b i (drop (size (expected c) xs) xs) u) cursor (onward_got (expected c) w.0 i said))
 
 -- the tables with one record more hold the plan with one record more
 pub bare_more : (p : Plan) (t : List Step × List Arrow) (i : Record) → t ≡ bare_plan p
@@ -150,11 +150,11 @@ module _ {xs rest : List ℕ} {c : Cursor} {t : List Step × List Arrow} {a b : 
   pub partly_more : {ys : List ℕ} {d : Cursor} {u : List Step × List Arrow} {m n : ℕ} (i : Record)
       → next rest c ≡ Ok (record { said = Some i; rest = ys; cursor = d })
       → u ≡ bare_with t i → m ≡ a + step_more i → n ≡ b + arrow_more i → Partly xs ys d u m n
-  partly_more {ys = ys} {d = d} {m = m} i e more-is m_is n_is =
+  partly_more {ys = ys} {d = d} {m = m} i e more_is m_is n_is =
       let w = onward rest c a b p.room i ys d e in
       record {
         plan = with_record p.plan i;
-        holds = more-is ∙ bare_more p.plan t i p.holds;
+        holds = more_is ∙ bare_more p.plan t i p.holds;
         room = subst (λ (n : ℕ). Room d m n) (sym n_is) (subst (λ (k : ℕ). Room d k (b + arrow_more i)) (sym m_is) w.room);
         onwards = λ r h. p.onwards r (more e h);
       }

@@ -18,23 +18,23 @@ fine_if : (xs : List ℕ) (zs : List Arrow) (k : ℕ) → ends_at Tail zs k ≤ 
 fine_if xs zs k out in_few m = grind (arith, nat_tests)
 
 module _ (zs : List Arrow) (n : ℕ) (before xs : List ℕ) (e : Explored (Leads zs n) (Start n (1 ∷ [])) before xs) where
-  fine-from : (k : ℕ) → fine_by xs zs k ≡ true → Fine zs n k
-  fine-from k b =
+  fine_from : (k : ℕ) → fine_by xs zs k ≡ true → Fine zs n k
+  fine_from k b =
       let w = fine_says xs zs k b in
       record { out_few = w.0; in_few = w.1; reached = e.sound k w.2 }
 
-  not-fine-from : (k : ℕ) → fine_by xs zs k ≡ false → Fine zs n k → ⊥
-  not-fine-from k b f =
+  not_fine_from : (k : ℕ) → fine_by xs zs k ≡ false → Fine zs n k → ⊥
+  not_fine_from k b f =
       let t = fine_if xs zs k f.out_few f.in_few (e.whole k f.reached) in
       let z : true ≡ false = sym t ∙ b in
       grind (arith, nat_tests)
 
   pub shaped_from : (r : Option ℕ) → LowestUnfit xs zs n r → Shaped zs n r
-  shaped_from None h = λ k w. fine-from k (h k w)
+  shaped_from None h = λ k w. fine_from k (h k w)
   shaped_from (Some k) h = record {
     step_of = h.0;
-    below_fine = λ j lo hi. fine-from j (h.1 j lo hi);
-    not_fine = not-fine-from k h.2;
+    below_fine = λ j lo hi. fine_from j (h.1 j lo hi);
+    not_fine = not_fine_from k h.2;
   }
 
 -- what holds of an answer that is known to be `Ok`

@@ -30,30 +30,30 @@ rising_sorted none (z ∷ zs) r (suc i) (suc j) h = rising_sorted z zs r.1 i j (
 
 module _ (zs : List Arrow) (n j after : ℕ) (sorted : Sorted zs) where
   -- an arrow that leads to a step above `after` is a hit
-  hit-by : (k : ℕ) → after < k → (l : Leads zs n j k) → hits n j after (get_or zs l.place no_arrow) ≡ true
-  hit-by k above l =
+  hit_by : (k : ℕ) → after < k → (l : Leads zs n j k) → hits n j after (get_or zs l.place no_arrow) ≡ true
+  hit_by k above l =
       let f = l.from_is in
       let t = l.to_is in
       let top = l.to_step.1 in
       grind (arith, nat_tests)
 
   -- what a hit is
-  hit-says : (a : Arrow) → hits n j after a ≡ true → (a.from ≡ j) × (after < a.to) × (a.to ≤ n)
-  hit-says a h = (grind (arith, nat_tests), grind (arith, nat_tests), grind (arith, nat_tests))
+  hit_says : (a : Arrow) → hits n j after a ≡ true → (a.from ≡ j) × (after < a.to) × (a.to ≤ n)
+  hit_says a h = (grind (arith, nat_tests), grind (arith, nat_tests), grind (arith, nat_tests))
 
   -- no arrow so far is a hit
   abbrev pub Missed : ℕ → Type 0
   Missed m = (p : ℕ) → p < m → hits n j after (get_or zs p no_arrow) ≡ false
 
   pub none_hit : Missed (length zs) → Least (Leads zs n j) after None
-  none_hit missed k above l = both_ways _ (missed l.place l.inside) (hit-by k above l)
+  none_hit missed k above l = both_ways _ (missed l.place l.inside) (hit_by k above l)
 
   -- past the arrows from j there is no hit
   pub none_past : (i : ℕ) → i < length zs → j < (get_or zs i no_arrow).from → Missed i → Least (Leads zs n j) after None
   none_past i inside past missed k above l =
       elim (cases_order l.place i) [
         | inl e ↦ let at : (get_or zs i no_arrow).from ≡ j = ap (λ (p : ℕ). (get_or zs p no_arrow).from) (sym e) ∙ l.from_is in omega arith
-        | inr (inl less) ↦ both_ways _ (missed l.place less) (hit-by k above l)
+        | inr (inl less) ↦ both_ways _ (missed l.place less) (hit_by k above l)
         | inr (inr more) ↦
             ⊎_elim (λ b. omega (arith, l.from_is)) (λ b. omega (arith, l.from_is, b.0))
             (before_true (get_or zs i no_arrow) (get_or zs l.place no_arrow) (sorted i l.place (more, l.inside)))
@@ -62,14 +62,14 @@ module _ (zs : List Arrow) (n j after : ℕ) (sorted : Sorted zs) where
   -- the first hit is the least
   pub first_hit : (i : ℕ) → i < length zs → Within n j → hits n j after (get_or zs i no_arrow) ≡ true → Missed i
       → Least (Leads zs n j) after (Some (get_or zs i no_arrow).to)
-  first_hit i inside step-j hit missed =
-      let w = hit-says (get_or zs i no_arrow) hit in
+  first_hit i inside step_j hit missed =
+      let w = hit_says (get_or zs i no_arrow) hit in
       let it : Leads zs n j (get_or zs i no_arrow).to = record {
         place = i;
         inside = inside;
         from_is = w.0;
         to_is = refl;
-        from_step = step-j;
+        from_step = step_j;
         to_step = (omega (arith, w.1), w.2);
       } in (
         w.1,
@@ -77,7 +77,7 @@ module _ (zs : List Arrow) (n j after : ℕ) (sorted : Sorted zs) where
         λ k above below l.
             elim (cases_order l.place i) [
               | inl e ↦ let at : (get_or zs i no_arrow).to ≡ k = ap (λ (p : ℕ). (get_or zs p no_arrow).to) (sym e) ∙ l.to_is in omega arith
-              | inr (inl less) ↦ both_ways _ (missed l.place less) (hit-by k above l)
+              | inr (inl less) ↦ both_ways _ (missed l.place less) (hit_by k above l)
               | inr (inr more) ↦
                   ⊎_elim (λ b. omega (arith, l.from_is, w.0)) (λ b. omega (arith, l.to_is, b.1))
                   (before_true (get_or zs i no_arrow) (get_or zs l.place no_arrow) (sorted i l.place (more, l.inside)))

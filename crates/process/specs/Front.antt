@@ -40,13 +40,13 @@ cursor_after n m p = record {
 -- the bytes xs begin with the stored form of p, which is without fault; `rest` is left
 pub data Front (xs : List ℕ) : List ℕ → Cursor → Plan → Type 0 where
   nothing_read : Front xs xs start no_plan
-  read-so-far : {rest : List ℕ} {p : Plan} (n m : ℕ) → SoFar n m p → xs ≡ form_of n m p ++ rest
+  read_so_far : {rest : List ℕ} {p : Plan} (n m : ℕ) → SoFar n m p → xs ≡ form_of n m p ++ rest
       → Front xs rest (cursor_after n m p) p
 
 -- f is the first fault that stands in xs: in a record before which all is without fault; or, where all records are,
 -- the lowest step that has too many arrows or is not reached
 pub data FirstFault (xs : List ℕ) : Fault → Type 0 where
-  in-record : {rest : List ℕ} {c : Cursor} {p : Plan} {f : Fault} → Front xs rest c p
+  in_record : {rest : List ℕ} {c : Cursor} {p : Plan} {f : Fault} → Front xs rest c p
       → first_fault (checks (expected c) rest c) ≡ Some f → FirstFault xs f
   in_step : {p : Plan} {k : ℕ} → Formed p → xs ≡ stored p → FirstUnfit p.arrows (length p.steps) k
       → FirstFault xs (record { cause = WrongStep; layer = Reader; place = k })

@@ -39,7 +39,7 @@ has_kept p k (x ∷ xs) =
     let rest = has_kept p k xs in
     elim (cases_eq k x) [
       | inl e ↦ let same = ap p e in let met = eq-eqb k x e in grind arith
-      | inr n ↦ let not-met = ne_eqb k x n in grind arith
+      | inr n ↦ let not_met = ne_eqb k x n in grind arith
     ]
 
 -- what stands in a list or in none stands in the list
@@ -78,23 +78,23 @@ module _ (rows : List Row) (lower : Lower (preds_of rows)) (positive : Positive 
       ]
 
   -- fewer arrows, turned round
-  joins-back : (preds : ℕ → List ℕ) → ((j k : ℕ) → has k (preds j) ≡ true → has k (preds_of rows j) ≡ true)
+  joins_back : (preds : ℕ → List ℕ) → ((j k : ℕ) → has k (preds j) ≡ true → has k (preds_of rows j) ≡ true)
       → Joins (length rows) (back preds)
-  joins-back preds part j k a = let (from, to) = joins_forth k j (part j k a) in (to, from)
+  joins_back preds part j k a = let (from, to) = joins_forth k j (part j k a) in (to, from)
 
   -- those that are no savepoints
-  cut-part : (c : Chart) (j k : ℕ) → has k (uncut c (columns rows) j) ≡ true → has k (preds_of rows j) ≡ true
-  cut-part c j k a =
+  cut_part : (c : Chart) (j k : ℕ) → has k (uncut c (columns rows) j) ≡ true → has k (preds_of rows j) ≡ true
+  cut_part c j k a =
       let kept = has_kept (λ w. not (is_savepoint c (columns rows) w)) k (preds_of rows j) in
       (and_parts (has k (preds_of rows j)) (not (is_savepoint c (columns rows) k)) (sym kept ∙ a)).0
 
   pub joins_cut : (c : Chart) → Joins (length rows) (back (uncut c (columns rows)))
-  joins_cut c = joins-back (uncut c (columns rows)) (cut-part c)
+  joins_cut c = joins_back (uncut c (columns rows)) (cut_part c)
 
   pub lower_cut : (c : Chart) → Lower (uncut c (columns rows))
-  lower_cut c v w a = lower v w (cut-part c v w a)
+  lower_cut c v w a = lower v w (cut_part c v w a)
 
   -- those of passed-over rows
   pub joins_passed : Joins (length rows) (back (passed_preds (columns rows)))
   joins_passed =
-      joins-back (passed_preds (columns rows)) (λ j. has_cond (in_state (columns rows) PassedOver j) (preds_of rows j))
+      joins_back (passed_preds (columns rows)) (λ j. has_cond (in_state (columns rows) PassedOver j) (preds_of rows j))

@@ -145,14 +145,14 @@ module _ (rows : List Row) (step : ℕ) (ps : Predecessors) (fs : List ℕ) (e :
   grown : {B : Type 0} (f : Row → B) → ◌≡◌ {A = ℕ → B} (λ j. f (row_at more j)) (at_put (λ j. f (row_at rows j)) (length rows + 1) (f (opened step ps e)))
   grown f = ap (λ g j. f (g j)) (row_push rows (opened step ps e)) ∙ column_put f (row_at rows) (length rows + 1) (opened step ps e)
 
-  preds-grown : preds_of more ≡ at_put (preds_of rows) (length rows + 1) fs
-  preds-grown = grown (λ r. listed r.predecessors) ∙ ap (at_put (preds_of rows) (length rows + 1)) is
+  preds_grown : preds_of more ≡ at_put (preds_of rows) (length rows + 1) fs
+  preds_grown = grown (λ r. listed r.predecessors) ∙ ap (at_put (preds_of rows) (length rows + 1)) is
 
   pub columns_added : columns more ≡ added (columns rows) step fs e
   columns_added = λ i. record {
     count = length_push rows (opened step ps e) i;
     step = grown (λ r. r.step) i;
-    preds = preds-grown i;
+    preds = preds_grown i;
     entry = grown (λ r. r.entry) i;
     state = grown (λ r. r.state) i;
   }
@@ -164,10 +164,10 @@ module _ (rows : List Row) (step : ℕ) (ps : Predecessors) (fs : List ℕ) (e :
       (ap (λ r. r.rolled) (row_past rows (length rows + 1) (inr (omega arith))))
 
   pub positive_added : Positive (preds_of rows) → ((x : ℕ) → has x fs ≡ true → 1 ≤ x) → Positive (preds_of more)
-  positive_added h up = subst Positive (sym preds-grown)
+  positive_added h up = subst Positive (sym preds_grown)
       (put_all (λ _ xs. (x : ℕ) → has x xs ≡ true → 1 ≤ x) (preds_of rows) (length rows + 1) fs h up)
 
   pub lower_added : Lower (preds_of rows) → ((x : ℕ) → has x fs ≡ true → x ≤ length rows) → Lower (preds_of more)
-  lower_added h up = subst Lower (sym preds-grown)
+  lower_added h up = subst Lower (sym preds_grown)
       (put_all (λ v xs. (x : ℕ) → has x xs ≡ true → x < v) (preds_of rows) (length rows + 1) fs h
       (λ x m. let l = up x m in omega arith))

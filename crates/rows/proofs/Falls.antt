@@ -19,16 +19,16 @@ module _ (steps : List Step) (mark : ℕ → Bool) (number : ℕ) where
   abbrev pub partly : List Row → ℕ → ℕ → Row
   partly rows i k = cond (ltb k (i + 1)) (fell rows k) (row_at rows k)
 
-  none-falls : (k : ℕ) → row_fallen steps (mark k) number no_row ≡ no_row
-  none-falls k = refl
+  none_falls : (k : ℕ) → row_fallen steps (mark k) number no_row ≡ no_row
+  none_falls k = refl
 
-  past-falls : (rows : List Row) (k : ℕ) → (k ≡ 0) ⊎ (length rows < k) → fell rows k ≡ row_at rows k
-  past-falls rows k o = let e = row_past rows k o in ap (row_fallen steps (mark k) number) (sym e) ∙ none-falls k ∙ e
+  past_falls : (rows : List Row) (k : ℕ) → (k ≡ 0) ⊎ (length rows < k) → fell rows k ≡ row_at rows k
+  past_falls rows k o = let e = row_past rows k o in ap (row_fallen steps (mark k) number) (sym e) ∙ none_falls k ∙ e
 
   pub fell_start : (rows : List Row) → row_at rows ≡ partly rows 0
   fell_start rows = fun_ext (λ k. elim (cases_Bool (ltb k 1)) [
     | inl t ↦ sym (ap (λ b. cond b (fell rows k) (row_at rows k)) t
-        ∙ past-falls rows k (inl (let l = ltb-true k 1 t in omega arith)))
+        ∙ past_falls rows k (inl (let l = ltb-true k 1 t in omega arith)))
     | inr t ↦ sym (ap (λ b. cond b (fell rows k) (row_at rows k)) t)
   ])
 
@@ -36,7 +36,7 @@ module _ (steps : List Step) (mark : ℕ → Bool) (number : ℕ) where
   fell_all rows i h = fun_ext (λ k. elim (cases_Bool (ltb k (i + 1))) [
     | inl t ↦ ap (λ b. cond b (fell rows k) (row_at rows k)) t
     | inr t ↦ ap (λ b. cond b (fell rows k) (row_at rows k)) t
-        ∙ sym (past-falls rows k (inr (let l = ltb-false k (i + 1) t in omega arith)))
+        ∙ sym (past_falls rows k (inr (let l = ltb-false k (i + 1) t in omega arith)))
   ])
 
   -- one row more
@@ -81,11 +81,11 @@ module _ (steps : List Step) (mark : ℕ → Bool) (number : ℕ) where
       state = λ k. (falls i k).state;
     }
 
-    preds-fell : preds_of new ≡ preds_of rows
-    preds-fell = λ i k. listed (falls i k).predecessors
+    preds_fell : preds_of new ≡ preds_of rows
+    preds_fell = λ i k. listed (falls i k).predecessors
 
     pub lower_fell : Lower (preds_of rows) → Lower (preds_of new)
-    lower_fell h = subst Lower (sym preds-fell) h
+    lower_fell h = subst Lower (sym preds_fell) h
 
     pub positive_fell : Positive (preds_of rows) → Positive (preds_of new)
-    positive_fell h = subst Positive (sym preds-fell) h
+    positive_fell h = subst Positive (sym preds_fell) h

@@ -64,8 +64,8 @@ module _ (rows : List Row) (lower : Lower (preds_of rows)) (positive : Positive 
   module _ {before : List ℕ} (xs : List ℕ)
       (e : Explored (Drawn (length rows) (forth (preds_of rows))) (Start (length rows) (row ∷ [])) before xs) where
     -- above it, the rows after it are marked
-    later-marked : (v : ℕ) → row < v → marked xs v ≡ after (columns rows) (eqb row) v
-    later-marked v high = same_from_decides (marked xs v) (after (columns rows) (eqb row) v) (path, mark) (after_is v)
+    later_marked : (v : ℕ) → row < v → marked xs v ≡ after (columns rows) (eqb row) v
+    later_marked v high = same_from_decides (marked xs v) (after (columns rows) (eqb row) v) (path, mark) (after_is v)
       where
         joins : Joins (length rows) (forth (preds_of rows))
         joins = joins_forth rows lower positive
@@ -90,7 +90,7 @@ module _ (rows : List Row) (lower : Lower (preds_of rows)) (positive : Positive 
         same v = elim (cases_lt row v) [
           | inl high ↦
               ap (λ b. b && (in_state (columns rows) Due v && marked xs v)) (lt-ltb row v high)
-              ∙ ap (λ b. in_state (columns rows) Due v && b) (later-marked v high)
+              ∙ ap (λ b. in_state (columns rows) Due v && b) (later_marked v high)
           | inr low ↦
               and_left (ltb row v) (in_state (columns rows) Due v && marked xs v) (le-ltb row v low)
               ∙ sym (and_right (in_state (columns rows) Due v) (after (columns rows) (eqb row) v) (not_after v low))

@@ -20,12 +20,12 @@ use Rattle.rows.proofs.Walks.{Before, back_marked, within_is}
 module _ (rows : List Row) (lower : Lower (preds_of rows)) (positive : Positive (preds_of rows)) (v : ℕ) where
   -- ── arrows ──
 
-  lower-over : Lower (over_passed (columns rows) v)
-  lower-over x w m = lower x w (has_cond (eqb x v || in_state (columns rows) PassedOver x) (preds_of rows x) w m)
+  lower_over : Lower (over_passed (columns rows) v)
+  lower_over x w m = lower x w (has_cond (eqb x v || in_state (columns rows) PassedOver x) (preds_of rows x) w m)
 
   -- those into v are all there
-  at-end : over_passed (columns rows) v v ≡ preds_of rows v
-  at-end = ap (λ b. cond (b || in_state (columns rows) PassedOver v) (preds_of rows v) []) (eq-eqb v v refl)
+  at_end : over_passed (columns rows) v v ≡ preds_of rows v
+  at_end = ap (λ b. cond (b || in_state (columns rows) PassedOver v) (preds_of rows v) []) (eq-eqb v v refl)
 
   -- and into another row those of a passed_over one
   elsewhere : (x : ℕ) → (x ≡ v → ⊥) → over_passed (columns rows) v x ≡ passed_preds (columns rows) x
@@ -49,16 +49,16 @@ module _ (rows : List Row) (lower : Lower (preds_of rows)) (positive : Positive 
   narrow : {u w : ℕ} → w < v → After (over_passed (columns rows) v) u w → After (passed_preds (columns rows)) u w
   narrow {u} {w} low (next m) = next (sym (ap (has u) (elsewhere w (λ e. omega arith))) ∙ m)
   narrow {u} {w} low (further {w = x} p m) =
-      let less = lower-over w x m in
+      let less = lower_over w x m in
       further (narrow (omega arith) p) (sym (ap (has x) (elsewhere w (λ e. omega arith))) ∙ m)
 
-  before-link : {u : ℕ} → Before (passed_preds (columns rows)) (preds_of rows v) u → After (over_passed (columns rows) v) u v
-  before-link {u} (inl m) = next (ap (has u) at-end ∙ m)
-  before-link (inr (w, m, p)) = further (widen p) (ap (has w) at-end ∙ m)
+  before_link : {u : ℕ} → Before (passed_preds (columns rows)) (preds_of rows v) u → After (over_passed (columns rows) v) u v
+  before_link {u} (inl m) = next (ap (has u) at_end ∙ m)
+  before_link (inr (w, m, p)) = further (widen p) (ap (has w) at_end ∙ m)
 
-  link-before : {u : ℕ} → After (over_passed (columns rows) v) u v → Before (passed_preds (columns rows)) (preds_of rows v) u
-  link-before {u} (next m) = inl (sym (ap (has u) at-end) ∙ m)
-  link-before (further {w = w} p m) = inr (w, sym (ap (has w) at-end) ∙ m, narrow (lower-over v w m) p)
+  link_before : {u : ℕ} → After (over_passed (columns rows) v) u v → Before (passed_preds (columns rows)) (preds_of rows v) u
+  link_before {u} (next m) = inl (sym (ap (has u) at_end) ∙ m)
+  link_before (further {w = w} p m) = inr (w, sym (ap (has w) at_end) ∙ m, narrow (lower_over v w m) p)
 
   -- ── marks ──
 
@@ -67,8 +67,8 @@ module _ (rows : List Row) (lower : Lower (preds_of rows)) (positive : Positive 
       → LinksMarked (columns rows) v xs
   links_marked xs e u =
       same_from_decides (marked xs u) (linked (columns rows) u v)
-      (Decides-like (marked xs u) before-link link-before
+      (Decides-like (marked xs u) before_link link_before
       (back_marked (length rows) (passed_preds (columns rows)) (joins_passed rows lower positive) (preds_of rows v)
       (λ w m. (joins_forth rows lower positive w v m).0) xs e u))
-      (within_is (length rows) (over_passed (columns rows) v) lower-over u v
-      (λ w m. (joins_forth rows lower positive w v (sym (ap (has w) at-end) ∙ m)).1.1))
+      (within_is (length rows) (over_passed (columns rows) v) lower_over u v
+      (λ w m. (joins_forth rows lower positive w v (sym (ap (has w) at_end) ∙ m)).1.1))

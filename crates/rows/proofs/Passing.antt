@@ -15,12 +15,12 @@ passing_more p xs i v inside is below j h =
       | inr ne ↦ get_or-set_other xs i j v 0 ne ∙ below j (omega arith)
     ]
 
-module _ (p : ℕ → Bool) (xs : List ℕ) (has-them : Passing p xs) (n : ℕ) where
+module _ (p : ℕ → Bool) (xs : List ℕ) (has_them : Passing p xs) (n : ℕ) where
   -- a start is a number that passes
   pub start_passes : (u : ℕ) → Start n xs u → p u ≡ true
   start_passes u (w, (i, (inside, e))) =
-      let low : i < 256 = omega (arith, has-them.size) in
-      let at = sym (has-them.each i low) ∙ e in
+      let low : i < 256 = omega (arith, has_them.size) in
+      let at = sym (has_them.each i low) ∙ e in
       elim (cases_Bool (p (i + 1))) [
         | inl t ↦ ap p (sym at ∙ cond-true (p (i + 1)) (i + 1) 0 t) ∙ t
         | inr f ↦ let zero = sym at ∙ cond-false (p (i + 1)) (i + 1) 0 f in absurd (omega (arith, w.0))
@@ -32,5 +32,5 @@ module _ (p : ℕ → Bool) (xs : List ℕ) (has-them : Passing p xs) (n : ℕ) 
       let (low, high) = w in
       let place : u - 1 + 1 ≡ u = omega arith in
       let inside : u - 1 < 256 = omega arith in
-      let at = has-them.each (u - 1) inside ∙ cond-true (p (u - 1 + 1)) (u - 1 + 1) 0 (ap p place ∙ t) ∙ place in
-      (w, (u - 1, (omega (arith, has-them.size), at)))
+      let at = has_them.each (u - 1) inside ∙ cond-true (p (u - 1 + 1)) (u - 1 + 1) 0 (ap p place ∙ t) ∙ place in
+      (w, (u - 1, (omega (arith, has_them.size), at)))

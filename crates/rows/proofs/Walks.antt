@@ -25,20 +25,20 @@ has_start n starts {k} w m = let (i, inside, e) = has_place k starts m in (w, (i
 
 module _ (n : ℕ) (preds : ℕ → List ℕ) (Starts : ℕ → Type 0) where
   -- along the arrows: to the rows after the starts
-  forth-out : {k : ℕ} → Reached (Drawn n (forth preds)) Starts k → Starts k ⊎ ((u : ℕ) × Starts u × After preds u k)
-  forth-out (start s) = inl s
-  forth-out (step {j = j} r a) =
-      ⊎_elim (λ s. inr (j, s, next a.drawn)) (λ w. inr (w.0, w.1, further w.2 a.drawn)) (forth-out r)
+  forth_out : {k : ℕ} → Reached (Drawn n (forth preds)) Starts k → Starts k ⊎ ((u : ℕ) × Starts u × After preds u k)
+  forth_out (start s) = inl s
+  forth_out (step {j = j} r a) =
+      ⊎_elim (λ s. inr (j, s, next a.drawn)) (λ w. inr (w.0, w.1, further w.2 a.drawn)) (forth_out r)
 
-  forth-in : Joins n (forth preds) → {u k : ℕ} → Starts u → After preds u k → Reached (Drawn n (forth preds)) Starts k
-  forth-in joins s (next m) = step (start s) (draws n (forth preds) joins m)
-  forth-in joins s (further p m) = step (forth-in joins s p) (draws n (forth preds) joins m)
+  forth_in : Joins n (forth preds) → {u k : ℕ} → Starts u → After preds u k → Reached (Drawn n (forth preds)) Starts k
+  forth_in joins s (next m) = step (start s) (draws n (forth preds) joins m)
+  forth_in joins s (further p m) = step (forth_in joins s p) (draws n (forth preds) joins m)
 
   -- against them: to the rows that the starts are after
-  back-out : {k : ℕ} → Reached (Drawn n (back preds)) Starts k → Starts k ⊎ ((w : ℕ) × Starts w × After preds k w)
-  back-out (start s) = inl s
-  back-out (step {j = j} r a) =
-      ⊎_elim (λ s. inr (j, s, next a.drawn)) (λ w. inr (w.0, w.1, joined preds (next a.drawn) w.2)) (back-out r)
+  back_out : {k : ℕ} → Reached (Drawn n (back preds)) Starts k → Starts k ⊎ ((w : ℕ) × Starts w × After preds k w)
+  back_out (start s) = inl s
+  back_out (step {j = j} r a) =
+      ⊎_elim (λ s. inr (j, s, next a.drawn)) (λ w. inr (w.0, w.1, joined preds (next a.drawn) w.2)) (back_out r)
 
   back_in : Joins n (back preds) → {k w : ℕ} → Reached (Drawn n (back preds)) Starts w → After preds k w
       → Reached (Drawn n (back preds)) Starts k
@@ -57,7 +57,7 @@ pub back_marked : (n : ℕ) (preds : ℕ → List ℕ) → Joins n (back preds)
     → (u : ℕ) → Decides (marked xs u) (Before preds starts u)
 back_marked n preds joins starts rows xs e u = (
   (λ m. ⊎_elim (λ s. inl (start_has n starts s)) (λ w. inr (w.0, start_has n starts w.1, w.2))
-      (back-out n preds (Start n starts) (e.sound u m))),
+      (back_out n preds (Start n starts) (e.sound u m))),
   (λ b. e.whole u (⊎_elim begin
       (λ w. back_in n preds (Start n starts) joins (begin w.1) w.2) b)),
 )
@@ -99,8 +99,8 @@ module _ (n : ℕ) (preds : ℕ → List ℕ) (joins : Joins n (forth preds)) (l
   -- a start, or after one
   pub forth_marked : (k : ℕ) → Decides (marked xs k) (Start n starts k ⊎ ((u : ℕ) × Start n starts u × After preds u k))
   forth_marked k = (
-    (λ m. forth-out n preds (Start n starts) (e.sound k m)),
-    (λ b. e.whole k (⊎_elim start (λ w. forth-in n preds (Start n starts) joins w.1 w.2) b)),
+    (λ m. forth_out n preds (Start n starts) (e.sound k m)),
+    (λ b. e.whole k (⊎_elim start (λ w. forth_in n preds (Start n starts) joins w.1 w.2) b)),
   )
 
   -- a walk from those that pass a test

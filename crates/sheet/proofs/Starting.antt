@@ -46,17 +46,17 @@ module _ (c : Chart) (s : Sheet) (v : View) (k : ℕ) (fs : List ℕ) (fair : Bo
       let (n, _) = or_parts (not (eqb (length fs) (wanted c k))) _ b in
       eqb-true (length fs) (wanted c k) (not-false _ n)
 
-  few-wanted : (entry : Flow) (t : Bool) → arrows_into c k ≤ 8 → cond t 0 (by_flow entry 1 (arrows_into c k)) ≤ 8
-  few-wanted entry true h = omega arith
-  few-wanted One false h = omega arith
-  few-wanted All false h = h
+  few_wanted : (entry : Flow) (t : Bool) → arrows_into c k ≤ 8 → cond t 0 (by_flow entry 1 (arrows_into c k)) ≤ 8
+  few_wanted entry true h = omega arith
+  few_wanted One false h = omega arith
+  few_wanted All false h = h
 
   pub may_add : arrows_into c k ≤ 8 → ((x : ℕ) → same_state (s.rows.state x) Absent ≡ false → is_row s.rows x ≡ true)
       → fits s.rows fs ≡ true
   may_add few rows =
       let room = lt-ltb s.rows.count 256 (start_room c s v k fs fair kind none) in
       let short : length fs ≤ 8 =
-      (let w = few-wanted (step_at c k).entry (eqb k 1) few in let e = counted in omega arith) in
+      (let w = few_wanted (step_at c k).entry (eqb k 1) few in let e = counted in omega arith) in
       let inside : any (λ x. not (is_row s.rows x)) fs ≡ false = elim (cases_Bool (any (λ x. not (is_row s.rows x)) fs)) [
         | inl t ↦
             let (x, m, q) = any_out (λ x. not (is_row s.rows x)) fs t in

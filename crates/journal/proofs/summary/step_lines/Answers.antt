@@ -8,10 +8,10 @@ use Rattle.journal.proofs.summary.step_lines.Goals as goal
 steps_more : (steps : List StepLine) (lines new line whole : List ℕ) (i : ℕ) (s : StepLine) → i < length steps → s ≡ get_or steps i s
     → line ≡ step_text (i + 1) s → new ≡ lines ++ line → lines ++ steps_text (i + 1) (drop i steps) ≡ whole
     → new ++ steps_text (i + 1 + 1) (drop (i + 1) steps) ≡ whole
-steps_more steps lines new line whole i s l s-is line-is New-is h =
+steps_more steps lines new line whole i s l s_is line_is new_is h =
     let rest = steps_text (i + 1 + 1) (drop (i + 1) steps) in
-    let cut = at_drop_more (steps_text (i + 1)) steps i s l ∙ ap (λ x. step_text (i + 1) x ++ rest) (sym s-is) in
-    ap (λ t. t ++ rest) (New-is ∙ ap (λ t. lines ++ t) line-is) ∙ append_assoc lines (step_text (i + 1) s) rest ∙ ap (λ t. lines ++ t) (sym cut) ∙ h
+    let cut = at_drop_more (steps_text (i + 1)) steps i s l ∙ ap (λ x. step_text (i + 1) x ++ rest) (sym s_is) in
+    ap (λ t. t ++ rest) (new_is ∙ ap (λ t. lines ++ t) line_is) ∙ append_assoc lines (step_text (i + 1) s) rest ∙ ap (λ t. lines ++ t) (sym cut) ∙ h
 
 pub loop-i-preserved : goal.loop-i-preserved
 loop-i-preserved c =

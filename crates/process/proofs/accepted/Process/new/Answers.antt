@@ -13,16 +13,16 @@ invariant_of-result c =
     let formed = c.requires.sound.formed in
     let n_is = draft_steps d p c.requires.holds in
     let m_is = draft_count d p c.requires.holds in
-    let zs-is = draft_arrows d p c.requires.holds in
+    let zs_is = draft_arrows d p c.requires.holds in
     let zs = vec_items d.arrows in
     let n = vec_len d.steps in
     let placed : All (Placed n) zs =
     subst (λ (k : ℕ). All (Placed k) zs) (sym n_is)
-    (subst (λ (ys : List Arrow). All (Placed (length p.steps)) ys) (sym zs-is) formed.placed) in
-    let rising = subst (λ (ys : List Arrow). Rising no_arrow ys) (sym zs-is) formed.rising in
+    (subst (λ (ys : List Arrow). All (Placed (length p.steps)) ys) (sym zs_is) formed.placed) in
+    let rising = subst (λ (ys : List Arrow). Rising no_arrow ys) (sym zs_is) formed.rising in
     let fine : (k : ℕ) → Within n k → Fine zs n k =
     subst (λ (m : ℕ). (k : ℕ) → Within m k → Fine zs m k) (sym n_is)
-    (subst (λ (ys : List Arrow). (k : ℕ) → Within (length p.steps) k → Fine ys (length p.steps) k) (sym zs-is) c.requires.sound.fine) in
+    (subst (λ (ys : List Arrow). (k : ℕ) → Within (length p.steps) k → Fine ys (length p.steps) k) (sym zs_is) c.requires.sound.fine) in
     record {
       some_steps = omega (arith, formed.some_steps);
       few_steps = omega (arith, formed.few_steps);

@@ -31,12 +31,12 @@ unfit_step-requires c =
     let f = c.in_ok-draft.ensures in
     let formed = (scan_outcome xs (bytes_from xs (λ i. (c.type_inv.input i).fits)) nothing_read f.scan).0 in
     let n_is = draft_steps c.in_ok-draft.draft f.plan f.holds in
-    let zs-is = c.as_slice.ensures.value ∙ draft_arrows c.in_ok-draft.draft f.plan f.holds in
+    let zs_is = c.as_slice.ensures.value ∙ draft_arrows c.in_ok-draft.draft f.plan f.holds in
     record {
       steps = omega (arith, formed.few_steps);
       column = c.requires.column;
       line = c.requires.line;
-      sorted = subst Sorted (sym zs-is) (rising_sorted no_arrow f.plan.arrows formed.rising);
+      sorted = subst Sorted (sym zs_is) (rising_sorted no_arrow f.plan.arrows formed.rising);
     }
 
 pub returns-in-Some : goal.returns-in-Some

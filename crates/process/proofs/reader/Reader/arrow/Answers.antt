@@ -2,7 +2,7 @@
 use Rattle.std.proofs.Common.{◌≡◌, ◌+◌, Some}
 use Rattle.std.proofs.lemmas.Result.{err_from_is_err_and}
 use Rattle.process.specs.declared.cursor.Expected.TheVariants.{ArrowRecord}
-use Rattle.process.specs.Reading.{arrow as arrow-record, read_arrow}
+use Rattle.process.specs.Reading.{arrow as arrow_record, read_arrow}
 use Rattle.process.specs.Items.{stand}
 use Rattle.process.proofs.Nexts.{answer_ok, answer_err, declines, hands_out, part_from}
 use Rattle.process.proofs.reader.Reader.arrow.Goals as goal
@@ -21,7 +21,7 @@ returns c =
     let passed = answer_ok _ _ _ c.in_ok-arrow.ensures.answer in
     let arrow : c.in_ok-arrow.arrow ≡ read_arrow self.rest.now = passed.1 in
     let d = hands_out ArrowRecord self.rest.now self.cursor (stand self) _ _ passed.0
-    (λ i. Some (arrow-record (arrow i)))
+    (λ i. Some (arrow_record (arrow i)))
     (λ i. (
       part_from 2 self.rest.now i,
       record {

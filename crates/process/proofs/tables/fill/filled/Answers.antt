@@ -28,33 +28,33 @@ returns-in_err-item c =
 
 pub take-requires : goal.take-requires
 take-requires c =
-    let told-it = c.in_ok-item.ensures in
+    let told_it = c.in_ok-item.ensures in
     let e = handed_out _ (stand c.loop-draft.reader) (stand c.next.new.self) _ _
-    told-it.answer told-it.after c.in-Some.is in
+    told_it.answer told_it.after c.in-Some.is in
     let w = onward _ _ _ _ c.loop-draft.invariant.room _ _ _ e in
     (w.steps_fit, w.arrows_fit)
 
 pub loop-draft-smaller : goal.loop-draft-smaller
 loop-draft-smaller c =
-    let told-it = c.in_ok-item.ensures in
+    let told_it = c.in_ok-item.ensures in
     let e = handed_out _ (stand c.loop-draft.reader) (stand c.next.new.self) _ _
-    told-it.answer told-it.after c.in-Some.is in
+    told_it.answer told_it.after c.in-Some.is in
     (onward _ _ _ _ c.loop-draft.invariant.room _ _ _ e).shorter
 
 pub loop-draft-preserved : goal.loop-draft-preserved
 loop-draft-preserved c =
-    let told-it = c.in_ok-item.ensures in
+    let told_it = c.in_ok-item.ensures in
     let e = handed_out _ (stand c.loop-draft.reader) (stand c.next.new.self) _ _
-    told-it.answer told-it.after c.in-Some.is in
+    told_it.answer told_it.after c.in-Some.is in
     let took = c.take.ensures in
     partly_more c.loop-draft.invariant (record_of c.in-Some.item) e took.bare took.steps took.arrows
 
 pub returns : goal.returns
 returns c =
-    let told-it = c.in_ok-item.ensures in
+    let told_it = c.in_ok-item.ensures in
     let none : c.in_ok-item.field-0 ≡ None = c.in_default.is in
     let e = read_end _ (stand c.loop-draft.reader) (stand c.next.new.self)
-    (sym (ap (λ (o : Option Item). told (Ok o)) none) ∙ told-it.answer) told-it.after in
+    (sym (ap (λ (o : Option Item). told (Ok o)) none) ∙ told_it.answer) told_it.after in
     record {
       plan = c.loop-draft.invariant.plan;
       scan = partly_ended c.loop-draft.invariant e;

@@ -24,7 +24,7 @@ fitting : (rows : List Row) (fs : List ℕ) → fits (columns rows) fs ≡ true 
 fitting rows fs h =
     let (a, b) = and_parts (ltb (length rows) 256) _ h in
     let (d, e) = and_parts (leb (length fs) 8) _ b in
-    let is-inside : (x : ℕ) → has x fs ≡ true → any (λ y. not (leb 1 y && leb y (length rows))) fs ≡ false
+    let is_inside : (x : ℕ) → has x fs ≡ true → any (λ y. not (leb 1 y && leb y (length rows))) fs ≡ false
     → (leb 1 x && leb x (length rows)) ≡ true =
     λ x m q. elim (cases_Bool (leb 1 x && leb x (length rows))) [
       | inl t ↦ t
@@ -34,7 +34,7 @@ fitting rows fs h =
     record {
       place = ltb-true (length rows) 256 a;
       few = leb-true (length fs) 8 d;
-      inside = λ x m. row_number x (length rows) (is-inside x m (not-true _ e));
+      inside = λ x m. row_number x (length rows) (is_inside x m (not-true _ e));
     }
 
 -- the list kept is the list given, of at most eight
