@@ -3,11 +3,11 @@ ghost use Rattle.std.specs.Prelude.{◌≡◌, true, false, [], ◌∷◌, ◌++
 ghost use Rattle.values.specs.Checks.{first_fault};
 ghost use Rattle.values.specs.declared.HostState.TheVariants.{Open, Standing, Void, Reversed};
 ghost use Rattle.values.specs.declared.Kind.TheVariants.{Fee};
-ghost use Rattle.host.specs.View.{Begins, Moves, Fresh, blank, begin_checks, move_checks};
+ghost use Rattle.host.specs.View.{Begins, Moves, Between, Fresh, blank, begin_checks, move_checks};
 ghost use Rattle.ledger.specs.Book.{ledger_view, lines_of, rest_of, rows_in, Writes};
 ghost use Rattle.ledger.specs.Lines.{last_of, may_follow, state_at, hold_line, next_line};
 ghost use Rattle.ledger.specs.declared.lines.Mark.TheVariants.{Post, Contra, Release};
-ghost use Rattle.std.proofs.Common.{rules, arith};
+ghost use Rattle.std.proofs.Common.{rules};
 
 use crate::book::Ledger;
 use crate::lines::{Line, Mark, last};
@@ -142,7 +142,12 @@ impl Controls for Ledger {
 
     ghost shuts = { λ _ _. false };
 
-    fn control(&mut self, _command: NoCommand) -> bool {
-        false
+    fn control(&mut self, _command: NoCommand) -> bool
+        ensures between { Between (ledger_view self.old) (ledger_view self.new) }
+        ensures shut { (ledger_view self.new).shut ≡ false }
+        ensures answers { result ≡ false }
+        ensures same { self.new ≡ self.old }
+    {
+        self.is_shut()
     }
 }

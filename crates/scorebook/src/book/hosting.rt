@@ -3,7 +3,7 @@ ghost use Rattle.std.specs.Prelude.{◌≡◌, min, false, [], ◌++◌, vec_len
 ghost use Rattle.values.specs.declared.HostState.TheVariants.{Open, Standing, Void, Reversed};
 ghost use Rattle.values.specs.declared.Kind.TheVariants.{Score};
 ghost use Rattle.host.specs.Keys.{rows_most};
-ghost use Rattle.host.specs.View.{Begins, Moves, Fresh, blank, is_unknown};
+ghost use Rattle.host.specs.View.{Begins, Moves, Between, Fresh, blank, is_unknown};
 ghost use Rattle.scorebook.specs.Book.{book_view, records_of, rest_of, Adds, Turns};
 ghost use Rattle.scorebook.specs.Shows.{booked_sound};
 
@@ -128,7 +128,12 @@ impl Controls for ScoreBook {
 
     ghost shuts = { λ _ _. false };
 
-    fn control(&mut self, _command: NoCommand) -> bool {
-        false
+    fn control(&mut self, _command: NoCommand) -> bool
+        ensures between { Between (book_view self.old) (book_view self.new) }
+        ensures shut { (book_view self.new).shut ≡ false }
+        ensures answers { result ≡ false }
+        ensures same { self.new ≡ self.old }
+    {
+        self.is_shut()
     }
 }
