@@ -1,5 +1,7 @@
 // Calls on stacks of hosts, accepted and declined.
-use host::{Call, Controls, Host, Pair, PairCommand, Switch, SwitchCommand, make_all, row_key};
+use host::{
+    Call, Controls, Host, NoCommand, Pair, PairCommand, Switch, SwitchCommand, make_all, row_key,
+};
 use ledger::{Ledger, Line, Mark};
 use scorebook::{Record, ScoreBook};
 use std::alloc::{AllocError, Global};
@@ -209,5 +211,17 @@ fn hosts_stand_on_hosts(rt: HostRuntime) -> Result<(), Fail> {
     expect(&rt, &mut stack, &[(Call::Undo(8), 13)]);
     assert_eq!(rt; stack.state(8), HostState::Standing);
     assert_eq!(rt; stack.room(Kind::Score), 1);
+    Ok(())
+}
+
+#[test]
+fn a_command_to_a_book_changes_nothing(rt: HostRuntime) -> Result<(), Fail> {
+    let mut pair = hosts(rt.alloc(), 6, 1)?;
+    expect(&rt, &mut pair, &[(Call::Begin(1, FEE), 0)]);
+    assert!(rt; !pair.control(PairCommand::First(SwitchCommand::Below(NoCommand))));
+    assert!(rt; pair.control(PairCommand::Second(SwitchCommand::Off)));
+    assert!(rt; pair.control(PairCommand::First(SwitchCommand::Below(NoCommand))));
+    assert_eq!(rt; pair.state(1), HostState::Open);
+    assert_eq!(rt; pair.room(Kind::Fee), 1);
     Ok(())
 }

@@ -135,14 +135,14 @@ outcome x =
     let c = x.process in
     let w = (runs c (opening 9 open_host memory) x.before).0 in
     let v = (does c w (abort (Partial x.failing))).0 in
-    let end_of_lem = runs c v x.next in
+    let end_of = runs c v x.next in
     record {
       struck = all_below (w.sheet.rows.count + 1) (strikes c w.sheet.rows (Partial x.failing));
       due = all_below (v.sheet.rows.count + 1) (in_state v.sheet.rows Due);
       arrows = graph_arrows v.sheet;
       points = restart_points c v.sheet.rows v.sheet.mode;
-      answers = end_of_lem.1;
-      told = end_of_lem.0.lent.buffer;
+      answers = end_of.1;
+      told = end_of.0.lent.buffer;
     }
 
 -- an example: the first bytes of a stored process, or a rollback

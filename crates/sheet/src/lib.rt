@@ -1,4 +1,4 @@
-//! The sheet of a competition: the calls that write it, and a run of events on it.
+//! The sheet of a competition: the calls that write it, and events as values.
 #![tactic(auto)]
 
 mod charts;
