@@ -1,4 +1,3 @@
 pub mod Records
 pub mod Book
-pub mod Shows
-pub mod Turned
+pub mod Sounds

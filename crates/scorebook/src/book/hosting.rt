@@ -5,7 +5,7 @@ ghost use Rattle.values.specs.declared.Kind.TheVariants.{Score};
 ghost use Rattle.host.specs.Keys.{rows_most};
 ghost use Rattle.host.specs.View.{Begins, Moves, Between, Fresh, blank, is_unknown};
 ghost use Rattle.scorebook.specs.Book.{book_view, records_of, rest_of, Adds, Turns};
-ghost use Rattle.scorebook.specs.Shows.{booked_sound};
+ghost use Rattle.scorebook.specs.Sounds.{booked_sound};
 
 use crate::book::ScoreBook;
 use crate::records::{Record, find};

@@ -2,7 +2,7 @@
 use Rattle.std.proofs.Common.{◌≡◌, ◌+◌, ◌<◌, true, length, sym, ◌∙◌, subst, arith}
 use Rattle.std.proofs.lemmas.List.{take_more_set, drop-set-lt, drop-drop}
 use Rattle.scorebook.specs.Records.{well}
-use Rattle.scorebook.specs.Turned.{well_push}
+use Rattle.scorebook.proofs.Turned.{well_push}
 use Rattle.scorebook.proofs.book.ScoreBook.add.Goals as goal
 
 pub invariant_of-self : goal.invariant_of-self

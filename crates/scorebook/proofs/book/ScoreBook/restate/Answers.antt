@@ -2,7 +2,7 @@
 use Rattle.std.proofs.Common.{◌≡◌, ◌≤◌, true, length, take, sym, refl, ap, ◌∙◌, subst, arith}
 use Rattle.std.proofs.lemmas.List.{length-take-le, drop-set-lt}
 use Rattle.scorebook.specs.Records.{well, place_in}
-use Rattle.scorebook.specs.Turned.{turned_in, turned_absent, well_turned}
+use Rattle.scorebook.proofs.Turned.{turned_in, turned_absent, well_turned}
 use Rattle.scorebook.proofs.book.ScoreBook.restate.Goals as goal
 
 pub invariant_of-self : goal.invariant_of-self

@@ -4,7 +4,7 @@ use Rattle.values.specs.Checks.{after}
 use Rattle.values.specs.Numbers.{same_host_state}
 use Rattle.scorebook.specs.Book.{records_of, free_of}
 use Rattle.scorebook.specs.Records.{turned}
-use Rattle.scorebook.specs.Shows.{turn_moves, turn_passes}
+use Rattle.scorebook.proofs.Shows.{turn_moves, turn_passes}
 use Rattle.scorebook.proofs.book.ScoreBook.turn.Goals as goal
 
 pub returns : goal.returns

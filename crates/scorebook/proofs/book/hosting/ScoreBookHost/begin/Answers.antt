@@ -4,7 +4,7 @@ use Rattle.values.specs.Checks.{after}
 use Rattle.host.specs.View.{is_unknown}
 use Rattle.scorebook.specs.Book.{records_of, rest_of, free_of}
 use Rattle.scorebook.specs.Records.{opened}
-use Rattle.scorebook.specs.Shows.{push_begins, push_passes, none_unknown, space}
+use Rattle.scorebook.proofs.Shows.{push_begins, push_passes, none_unknown, space}
 use Rattle.scorebook.proofs.book.hosting.ScoreBookHost.begin.Goals as goal
 
 pub add-requires : goal.add-requires

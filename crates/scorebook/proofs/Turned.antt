@@ -1,5 +1,5 @@
 -- One record turned, and one record more, among a book's records. Assumes nothing.
-use Rattle.std.specs.Prelude.{◌≡◌, ℕ, ◌<◌, ◌≤◌, true, false, cond, not, List, [], ◌∷◌, ◌++◌, length, get_or, take, set, is_some, Some, None, slice_index_or, slice_set, refl}
+use Rattle.std.specs.Prelude.{◌≡◌, ℕ, ◌<◌, ◌≤◌, true, false, cond, List, [], ◌∷◌, ◌++◌, length, get_or, take, set, is_some, Some, None, slice_index_or, slice_set, refl}
 use Rattle.std.proofs.Common.{sym, ◌∙◌, arith}
 use Rattle.std.proofs.Math.Seq.{take-set-lt}
 use Rattle.std.proofs.lemmas.List.{get_or-take, length-take-le}
@@ -45,17 +45,6 @@ pub well_push : (xs : List Record) (r : Record) → well xs ≡ true → is_row 
 well_push [] r w i k e = grind (arith, nat_tests)
 well_push (x ∷ xs) r w i k e =
     let ih = well_push xs r in let p = find_push xs r x.row in grind (arith, nat_tests)
-
--- there is no record of what is no row
-pub find_outside : (xs : List Record) (n : RowKey) → well xs ≡ true → is_row n ≡ false → find_in xs n ≡ None
-find_outside [] n w o = refl
-find_outside (x ∷ xs) n w o = let ih = find_outside xs n in grind (arith, nat_tests)
-
--- a row has a record exactly if it is known
-pub find_known : (xs : List Record) (n : RowKey) → well xs ≡ true
-    → is_some (find_in xs n) ≡ not (is_unknown (state_in (find_in xs n)))
-find_known [] n w = refl
-find_known (x ∷ xs) n w = let ih = find_known xs n in grind (arith, nat_tests)
 
 -- the record at its place is set
 pub turned_set : (xs : List Record) (row : RowKey) (to : HostState) (d : Record) → place_in xs row < length xs

@@ -1,5 +1,5 @@
 -- What a book shows after a turn, and after one record more. Assumes nothing.
-use Rattle.std.specs.Prelude.{◌≡◌, ℕ, ◌-◌, ◌<◌, true, false, cond, not, ◌&&◌, List, [], ◌∷◌, ◌++◌, is_some, Some, None, Ok, Option, ◌==◌, refl}
+use Rattle.std.specs.Prelude.{◌≡◌, ℕ, ◌-◌, ◌<◌, true, false, cond, not, ◌&&◌, List, [], ◌∷◌, ◌++◌, is_some, None, Ok, ◌==◌, refl}
 use Rattle.std.proofs.Common.{sym, ap, ap₂, ◌∙◌, ⊎_elim, arith}
 use Rattle.std.proofs.lemmas.Bool.Decides.{nat_tests}
 use Rattle.std.proofs.lemmas.Bool.{cases_Bool, and_from}
@@ -11,11 +11,12 @@ use Rattle.values.specs.declared.Kind.TheVariants.{Score}
 use Rattle.values.specs.declared.HostState.{HostState}
 use Rattle.values.specs.declared.HostState.TheVariants.{Unknown}
 use Rattle.host.specs.Keys.{RowKey, is_row}
-use Rattle.host.specs.View.{Begins, Moves, Sound, is_unknown, begin_checks, begun, move_checks, moved}
+use Rattle.host.specs.View.{Begins, Moves, is_unknown, begin_checks, begun, move_checks, moved}
 use Rattle.host.proofs.Ext.{view_ext}
 use Rattle.scorebook.specs.declared.records.Record.{Record}
-use Rattle.scorebook.specs.Records.{find_in, turned, opened, state_in, entry_in, well, booked}
-use Rattle.scorebook.specs.Turned.{state_turned, entry_turned, find_push, find_outside, find_known}
+use Rattle.scorebook.specs.Records.{find_in, turned, opened, state_in, well, booked}
+use Rattle.scorebook.specs.Sounds.{find_outside, find_known}
+use Rattle.scorebook.proofs.Turned.{state_turned, entry_turned, find_push}
 
 -- states with one number are one state
 pub unknown_is : (s : HostState) → is_unknown s ≡ true → s ≡ Unknown
@@ -86,17 +87,6 @@ push_begins free less xs ys row e i h r l t =
           ∙ booked_push free less xs row e h z l
           ∙ ap (λ f. after f (booked free xs) (begun (booked free xs) row e)) (sym none);
     }
-
-same_some : (o : Option Record) → is_some (entry_in o) ≡ is_some o
-same_some None = refl
-same_some (Some r) = refl
-
--- what a book shows is sound
-pub booked_sound : (free : ℕ) (xs : List Record) → well xs ≡ true → Sound (booked free xs)
-booked_sound free xs w = record {
-  outside = λ n o. ap state_in (find_outside xs n w o);
-  entries = λ n. same_some (find_in xs n) ∙ find_known xs n w;
-}
 
 -- an unknown row has no record
 pub none_unknown : (xs : List Record) (row : RowKey) → well xs ≡ true → is_unknown (state_in (find_in xs row)) ≡ true
