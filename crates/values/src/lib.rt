@@ -1,9 +1,11 @@
 // The values that every layer shares: kinds and entries, states, phases, faults.
 #![tactic(auto)]
 
-ghost use Rattle.std.specs.Prelude.{◌≡◌};
+ghost use Rattle.std.specs.Prelude.{◌≡◌, cond};
+ghost use Rattle.values.specs.declared.Flow.TheVariants.{One, All};
+ghost use Rattle.values.specs.Kinds.{Decodes};
 ghost use Rattle.values.specs.Numbers.{kind_number, flow_number, row_state_number, host_state_number, phase_number, cause_number, layer_number};
-ghost use Rattle.values.specs.Numbers.{same_state, same_host_state, same_phase, same_kind, in_range};
+ghost use Rattle.values.specs.Numbers.{in_range};
 
 mod texts;
 
@@ -29,6 +31,7 @@ pub struct Entry {
 }
 
 /// The state of a sheet's row; a number that has no row is absent.
+// A case and no option of a state: a reply has a number for it.
 #[derive(Clone, Copy, PartialEq, Eq, Debug, Drop)]
 pub enum RowState {
     Absent = 0,
@@ -41,6 +44,7 @@ pub enum RowState {
 }
 
 /// The state of a row at a host.
+// Unknown is a case and no option: a call is declined by comparing states, that one too.
 #[derive(Clone, Copy, PartialEq, Eq, Debug, Drop)]
 pub enum HostState {
     Unknown = 0,
@@ -99,6 +103,7 @@ pub struct Fault {
 }
 
 /// How far an abort rolls back: all committed rows, or what a failing row calls for.
+// No `Option<u16>`: its `None` would not say that all rows are meant.
 #[derive(Clone, Copy, PartialEq, Eq, Debug, Drop)]
 pub enum Mode {
     Complete,
@@ -120,6 +125,7 @@ pub struct RowArrow {
 }
 
 /// What a call on a sheet answers.
+// No result around the accepted answers: they are an enum already, and a call that is declined is one answer more.
 #[derive(Clone, Copy, PartialEq, Eq, Debug, Drop)]
 pub enum Answer {
     /// A row was started, with this number.
@@ -131,94 +137,107 @@ pub enum Answer {
     Declined(Fault),
 }
 
-impl Kind {
-    /// The kind's number in stored forms.
-    pub fn number(self) -> u8
-        ensures { result ≡ kind_number self }
-    {
-        self as u8
-    }
+/// The kind's number in stored forms.
+impl From<Kind> for u8 {
+    ghost from_gives = { λ kind number. number ≡ kind_number kind };
 
-    /// Whether both are the same kind.
-    pub fn is(self, other: Kind) -> bool
-        ensures { result ≡ same_kind self other }
-    {
-        self.number() == other.number()
+    fn from(kind: Kind) -> u8 {
+        kind as u8
     }
 }
 
-impl Flow {
-    /// The number in stored forms.
-    pub fn number(self) -> u8
-        ensures { result ≡ flow_number self }
-    {
-        self as u8
+/// The flow's number in stored forms.
+impl From<Flow> for u8 {
+    ghost from_gives = { λ flow number. number ≡ flow_number flow };
+
+    fn from(flow: Flow) -> u8 {
+        flow as u8
     }
 }
 
-impl RowState {
-    /// The state's number in replies.
-    pub fn number(self) -> u8
-        ensures { result ≡ row_state_number self }
-    {
-        self as u8
-    }
+/// The state's number in replies.
+impl From<RowState> for u8 {
+    ghost from_gives = { λ state number. number ≡ row_state_number state };
 
-    /// Whether both are the same state.
-    pub fn is(self, other: RowState) -> bool
-        ensures { result ≡ same_state self other }
-    {
-        self.number() == other.number()
+    fn from(state: RowState) -> u8 {
+        state as u8
     }
 }
 
-impl HostState {
-    /// The state's number.
-    pub fn number(self) -> u8
-        ensures { result ≡ host_state_number self }
-    {
-        self as u8
-    }
+/// The number of a state at a host.
+impl From<HostState> for u8 {
+    ghost from_gives = { λ at_host number. number ≡ host_state_number at_host };
 
-    /// Whether both are the same state.
-    pub fn is(self, other: HostState) -> bool
-        ensures { result ≡ same_host_state self other }
-    {
-        self.number() == other.number()
+    fn from(at_host: HostState) -> u8 {
+        at_host as u8
     }
 }
 
-impl Phase {
-    /// The phase's number in replies and faults.
-    pub fn number(self) -> u8
-        ensures { result ≡ phase_number self }
-    {
-        self as u8
-    }
+/// The phase's number in replies and faults.
+impl From<Phase> for u8 {
+    ghost from_gives = { λ phase number. number ≡ phase_number phase };
 
-    /// Whether both are the same phase.
-    pub fn is(self, other: Phase) -> bool
-        ensures { result ≡ same_phase self other }
-    {
-        self.number() == other.number()
+    fn from(phase: Phase) -> u8 {
+        phase as u8
     }
 }
 
-impl Cause {
-    /// The cause's number.
-    pub fn number(self) -> u8
-        ensures { result ≡ cause_number self }
-    {
-        self as u8
+/// The cause's number.
+impl From<Cause> for u8 {
+    ghost from_gives = { λ cause number. number ≡ cause_number cause };
+
+    fn from(cause: Cause) -> u8 {
+        cause as u8
+    }
+}
+
+/// The layer's number.
+impl From<Layer> for u8 {
+    ghost from_gives = { λ layer number. number ≡ layer_number layer };
+
+    fn from(layer: Layer) -> u8 {
+        layer as u8
+    }
+}
+
+/// A number that no kind has.
+#[derive(Clone, Copy, PartialEq, Eq, Debug, Drop)]
+pub struct UnknownKind(pub u8);
+
+/// The kind with a number in stored forms.
+impl TryFrom<u8> for Kind {
+    type Error = UnknownKind;
+
+    ghost try_from_gives = { Decodes };
+
+    fn try_from(number: u8) -> Result<Kind, UnknownKind> {
+        match number {
+            0 => Ok(Kind::Score),
+            1 => Ok(Kind::Fee),
+            _ => Err(UnknownKind(number)),
+        }
+    }
+}
+
+/// All branches where the bit of a stored form is set.
+impl From<bool> for Flow {
+    ghost from_gives = { λ all flow. flow ≡ cond all All One };
+
+    fn from(all: bool) -> Flow {
+        if all { Flow::All } else { Flow::One }
     }
 }
 
 impl Layer {
-    /// The layer's number.
-    pub fn number(self) -> u8
-        ensures { result ≡ layer_number self }
+    /// A fault of this layer.
+    pub fn fault(self, cause: Cause, place: usize) -> Fault
+        ensures { result ≡ record { cause = cause; layer = self; place = place } }
     {
-        self as u8
+        Fault {
+            cause,
+            layer: self,
+            place,
+        }
     }
 }
 
@@ -230,8 +249,8 @@ impl Entry {
         match self.number {
             None => true,
             Some(n) => match self.kind {
-                Kind::Score => -200 <= n && n <= 999,
-                Kind::Fee => -100000 <= n && n <= 100000,
+                Kind::Score => (-200..=999).contains(&n),
+                Kind::Fee => (-100000..=100000).contains(&n),
             },
         }
     }

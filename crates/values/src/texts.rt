@@ -7,6 +7,7 @@ use std::fmt;
 
 impl Cause {
     /// The cause in words that a secretary understands.
+    // A text and no `Display` of a cause: it needs no formatter, and cannot fail.
     pub fn reason(self) -> &'static str
         ensures { result.now ≡ reason self }
     {
@@ -38,8 +39,8 @@ impl fmt::Display for Fault {
     ghost output = { λ x. Some (spelled x) };
 
     fn fmt<W: fmt::Write>(&self, f: &mut fmt::Formatter<W>) -> fmt::Result {
-        let cause = self.cause.number();
-        let layer = self.layer.number();
+        let cause = u8::from(self.cause);
+        let layer = u8::from(self.layer);
         let place = self.place;
         let reason = self.cause.reason();
         write!(f, "{cause} {layer} {place} - {reason}")
