@@ -1,21 +1,9 @@
 -- Lemmas on the marks of a column.
-use Rattle.std.proofs.Common.{◌≡◌, ℕ, ◌<◌, ◌≤◌, Bool, true, false, cond, not, ◌&&◌, eqb, ltb, List, length, get_or, set, sym, ap, ◌∙◌, subst, inl, inr, arith}
-use Rattle.std.proofs.lemmas.List.{get_or-set_same, get_or-set_other, get_or_past, length-set, set_past}
+use Rattle.std.proofs.Common.{◌≡◌, ℕ, ◌<◌, Bool, true, false, cond, not, ◌&&◌, eqb, ltb, List, length, get_or, set, sym, ap, ◌∙◌, subst, inl, inr, arith}
+use Rattle.std.proofs.lemmas.List.{get_or-set_same, get_or-set_other, length-set}
 use Rattle.std.proofs.lemmas.Bool.{cases_eq, lt-ltb, ltb-true, and_parts}
 use Rattle.std.proofs.lemmas.Bool.Decides.{nat_tests}
-use Rattle.graph.specs.Column.{mark_count, covered, marked, Marked, Plain, with_mark, Kept, Wiped}
-
--- a point that has no mark is not marked
-pub marked_uncovered : (xs : List ℕ) (k : ℕ) → covered (length xs) k ≡ false → marked xs k ≡ false
-marked_uncovered xs k h = let e : length xs ≤ k → get_or xs k 0 ≡ 0 = get_or_past xs k 0 in grind (arith, nat_tests)
-
--- and marking it changes nothing
-pub with_mark_uncovered : (xs : List ℕ) (k : ℕ) → covered (length xs) k ≡ false → with_mark xs k ≡ xs
-with_mark_uncovered xs k h = let e : length xs ≤ k → set xs k 1 ≡ xs = set_past xs k 1 in grind (arith, nat_tests)
-
--- a point that has a mark is marked unless its byte is 0
-pub marked_covered : (xs : List ℕ) (k : ℕ) → covered (length xs) k ≡ true → marked xs k ≡ not (eqb (get_or xs k 0) 0)
-marked_covered xs k h = grind (arith, nat_tests)
+use Rattle.graph.specs.Column.{mark_count, covered, marked, Marked, Plain, with_mark, Kept}
 
 -- a point that has a mark is below the number of marks
 pub below_count : (size k : ℕ) → covered size k ≡ true → k < mark_count
@@ -39,10 +27,6 @@ kept_set xs i v h = record {
 -- what is kept twice is kept
 pub kept_then : {xs ys zs : List ℕ} → Kept xs ys → Kept ys zs → Kept xs zs
 kept_then p q = record { rest = λ k h. q.rest k h ∙ p.rest k h; size = q.size ∙ p.size }
-
--- a wiped column is kept
-pub kept_wiped : {xs ys : List ℕ} → Wiped xs ys → Kept xs ys
-kept_wiped w = record { rest = w.rest; size = w.size }
 
 -- a point is marked once its mark is set
 pub marked_here : (xs : List ℕ) (t : ℕ) → t < mark_count → t < length xs → Marked (set xs t 1) t
@@ -70,10 +54,6 @@ plain_set xs t low len p k h =
       | inr ne ↦ get_or-set_other xs t k 1 0 ne ∙ p k h ∙ ap (λ (b : Bool). cond b 1 0) (sym (marked_other xs t k 1 ne))
     ]
 
--- in a wiped column no point is marked
-pub unmarked_wiped : {xs ys : List ℕ} (k : ℕ) → Wiped xs ys → marked ys k ≡ false
-unmarked_wiped {ys = ys} k w = let z : k < mark_count → get_or ys k 0 ≡ 0 = w.zeros k in grind (arith, nat_tests)
-
--- so that its marks are 0 or 1
-pub plain_wiped : {xs ys : List ℕ} → Wiped xs ys → Plain ys
-plain_wiped w k h = w.zeros k h ∙ ap (λ (b : Bool). cond b 1 0) (sym (unmarked_wiped k w))
+-- where no point is marked, the marks are 0 or 1
+pub plain_unmarked : (xs : List ℕ) → ((k : ℕ) → marked xs k ≡ false) → Plain xs
+plain_unmarked xs none k h = let z = none k in grind (arith, nat_tests)

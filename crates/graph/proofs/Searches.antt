@@ -1,12 +1,11 @@
 -- Lemmas on a search: what taking in points does, and that nobody waits only once all that is reached is marked.
-use Rattle.std.proofs.Common.{◌≡◌, ℕ, zero, suc, ◌+◌, ◌<◌, ◌≤◌, true, false, cond, leb, ◌⊎◌, List, [], ◌∷◌, ◌++◌, length, get_or, set, sym, refl, ap, ◌∙◌, subst, inl, inr, ⊎_elim, arith}
+use Rattle.std.proofs.Common.{◌≡◌, ℕ, zero, suc, ◌+◌, ◌<◌, ◌≤◌, true, false, cond, leb, ◌⊎◌, List, [], ◌∷◌, ◌++◌, length, set, sym, refl, ap, ◌∙◌, subst, inl, inr, ⊎_elim, arith}
 use Rattle.std.proofs.lemmas.List.{length_push}
-use Rattle.std.proofs.lemmas.Bool.{cases_lt, cases_eq, cases_Bool, both_ways, cond-true, cond-false, and_parts, leb-true}
-use Rattle.graph.proofs.Columns.{below_count, below_size, kept_set, kept_then, marked_here, marked_other, marked_set}
-use Rattle.graph.proofs.Columns.{plain_set, unmarked_wiped, plain_wiped}
-use Rattle.graph.specs.Column.{mark_count, covered, marked, Marked, Kept, Wiped}
+use Rattle.std.proofs.lemmas.Bool.{cases_eq, both_ways, and_parts, leb-true}
+use Rattle.graph.proofs.Columns.{below_count, below_size, kept_set, marked_here, marked_other, marked_set, plain_set, plain_unmarked}
+use Rattle.graph.specs.Column.{mark_count, covered, marked, Marked, Kept}
 use Rattle.graph.specs.Reach.{Within, Start, Reached, start, step, Explored, roomy}
-use Rattle.graph.specs.Search.{In, here, there, unmarked, column_with, line_with, Grown, Search}
+use Rattle.graph.specs.Search.{In, here, there, unmarked, Grown, Search}
 
 -- who stood in line stands in it after a push
 pub in_front : {k : ℕ} (xs ys : List ℕ) → In k xs → In k (xs ++ ys)
@@ -67,40 +66,7 @@ pub room_left : (n t places : ℕ) (xs ws : List ℕ) → Within n t → t < mar
     length ws + unmarked n xs ≤ places → marked xs t ≡ false → length ws < places
 room_left n t places xs ws w low len r z = let one = unmarked_set n t xs w low len z in omega arith
 
--- a point that was taken in is marked
-pub taken_marked : {ys : List ℕ} (t : ℕ) (xs : List ℕ) → t < mark_count → t < length xs → ys ≡ column_with xs t → Marked ys t
-taken_marked t xs low len e =
-    let P : List ℕ → Type 0 = λ y. Marked y t in
-    elim (cases_Bool (marked xs t)) [
-      | inl m ↦ subst P (sym (e ∙ cond-true (marked xs t) xs (set xs t 1) m)) m
-      | inr z ↦ subst P (sym (e ∙ cond-false (marked xs t) xs (set xs t 1) z)) (marked_here xs t low len)
-    ]
-
 module _ (From : ℕ → Type 0) (n : ℕ) where
-  -- no point is taken in
-  pub grown_none : (xs ws : List ℕ) → Grown From n xs ws xs ws
-  grown_none xs ws = record {
-    keeps = λ k m. m;
-    news = λ k m. inl m;
-    stays = λ k i. i;
-    lines = λ k i. inl i;
-    count = refl;
-    plain = λ p. p;
-    kept = record { rest = λ k h. refl; size = refl };
-  }
-
-  -- some points are taken in, and then others
-  pub grown_then : {xs ws ys vs zs us : List ℕ} → Grown From n xs ws ys vs → Grown From n ys vs zs us → Grown From n xs ws zs us
-  grown_then p q = record {
-    keeps = λ k m. q.keeps k (p.keeps k m);
-    news = λ k m. ⊎_elim (λ y. ⊎_elim inl (λ f. inr (f.0, q.stays k f.1)) (p.news k y)) inr (q.news k m);
-    stays = λ k i. q.stays k (p.stays k i);
-    lines = λ k i. ⊎_elim (λ j. ⊎_elim inl (λ w. inr (q.keeps k w)) (p.lines k j)) inr (q.lines k i);
-    count = q.count ∙ p.count;
-    plain = λ h. q.plain (p.plain h);
-    kept = kept_then p.kept q.kept;
-  }
-
   -- the same at an equal column and an equal line
   pub grown_at : {xs ws ys vs zs us : List ℕ} → zs ≡ ys → us ≡ vs → Grown From n xs ws ys vs → Grown From n xs ws zs us
   grown_at {xs = xs} {ws = ws} {vs = vs} {zs = zs} e f g =
@@ -125,32 +91,9 @@ module _ (From : ℕ → Type 0) (n : ℕ) where
     kept = kept_set xs t 1 low;
   }
 
-  -- a point is taken in
-  pub grown_taken : {ys vs : List ℕ} (t : ℕ) (xs ws : List ℕ) → Within n t → t < mark_count → t < length xs → From t →
-      ys ≡ column_with xs t → vs ≡ line_with xs ws t → Grown From n xs ws ys vs
-  grown_taken t xs ws w low len from e f =
-      let b = marked xs t in
-      elim (cases_Bool b) [
-        | inl m ↦ grown_at (e ∙ cond-true b xs (set xs t 1) m) (f ∙ cond-true b ws (ws ++ t ∷ []) m) (grown_none xs ws)
-        | inr z ↦ grown_at (e ∙ cond-false b xs (set xs t 1) z) (f ∙ cond-false b ws (ws ++ t ∷ []) z)
-            (grown_new t xs ws w low len from z)
-      ]
-
--- all arrows up to the target t are done, once those up to `after` are and t is the next
-pub up_to : (P : ℕ → Type 0) (after t : ℕ) (xs ys : List ℕ) → ((k : ℕ) → Marked xs k → Marked ys k) → Marked ys t →
-    ((q : ℕ) → P q → q ≤ after → Marked xs q) → ((k : ℕ) → after < k → k < t → P k → ⊥) → (q : ℕ) → P q → q ≤ t → Marked ys q
-up_to P after t xs ys keeps it below none q a le =
-    elim (cases_lt after q) [
-      | inr low ↦ keeps q (below q a low)
-      | inl high ↦ elim (cases_eq q t) [
-        | inl e ↦ let Q : ℕ → Type 0 = Marked ys in subst Q (sym e) it
-        | inr ne ↦ absurd (none q high (omega arith) a)
-      ]
-    ]
-
 module _ (Arrow : ℕ → ℕ → Type 0) (Starts : ℕ → Type 0) (n : ℕ) where
   -- the starts wait, and nothing else was marked
-  pub search_begun : {before xs₀ : List ℕ} (xs ws : List ℕ) → Wiped before xs₀ → Grown Starts n xs₀ [] xs ws →
+  pub search_begun : {xs₀ : List ℕ} (xs ws : List ℕ) → ((k : ℕ) → marked xs₀ k ≡ false) → Grown Starts n xs₀ [] xs ws →
       ((k : ℕ) → Starts k → Marked xs k) → Search Arrow Starts n xs ws
   search_begun {xs₀ = xs₀} xs ws clean p all = record {
     sound = λ k m. start (fresh k m).0;
@@ -158,15 +101,11 @@ module _ (Arrow : ℕ → ℕ → Type 0) (Starts : ℕ → Type 0) (n : ℕ) wh
     lined = λ k i. ⊎_elim (λ j. absurd (in_none j)) (λ m. m) (p.lines k i);
     closed = λ k m. inl (fresh k m).1;
     count = let most = unmarked_most n xs₀ in omega (arith, p.count);
-    plain = p.plain (plain_wiped clean);
+    plain = p.plain (plain_unmarked xs₀ clean);
   }
     where
       fresh : (k : ℕ) → Marked xs k → Starts k × In k ws
-      fresh k m = ⊎_elim (λ y. absurd (both_ways (marked xs₀ k) (unmarked_wiped k clean) y)) (λ f. f) (p.news k m)
-
-  -- the same where an equal list waits
-  pub search_at : (xs us vs : List ℕ) → us ≡ vs → Search Arrow Starts n xs us → Search Arrow Starts n xs vs
-  search_at xs us vs e s = let P : List ℕ → Type 0 = Search Arrow Starts n xs in subst P e s
+      fresh k m = ⊎_elim (λ y. absurd (both_ways (marked xs₀ k) (clean k) y)) (λ f. f) (p.news k m)
 
   -- the first in line is gone through
   pub search_more : (p : ℕ) (xs ws ys vs : List ℕ) → Search Arrow Starts n xs (p ∷ ws) → Grown (Arrow p) n xs ws ys vs →
@@ -200,25 +139,21 @@ module _ (Arrow : ℕ → ℕ → Type 0) (Starts : ℕ → Type 0) (n : ℕ) wh
       all k (step {j = j} r a) = ⊎_elim (λ i. absurd (in_none i)) (λ c. c k a) (s.closed j (all j r))
 
 -- the search as it begins with the numbers `starts`, where the graph's size and an empty queue are known by equations
-pub search_from : (Arrow : ℕ → ℕ → Type 0) {before xs₀ us : List ℕ} (m n : ℕ) (starts xs ws : List ℕ) → m ≡ n → us ≡ [] →
-    Wiped before xs₀ → Grown (Start m starts) m xs₀ us xs ws → ((k : ℕ) → Start m starts k → Marked xs k) →
+pub search_from : (Arrow : ℕ → ℕ → Type 0) {xs₀ us : List ℕ} {m n : ℕ} (starts : List ℕ) {xs ws : List ℕ} → m ≡ n → us ≡ [] →
+    ((k : ℕ) → marked xs₀ k ≡ false) → Grown (Start m starts) m xs₀ us xs ws → ((k : ℕ) → Start m starts k → Marked xs k) →
     Search Arrow (Start n starts) n xs ws
-search_from Arrow {xs₀ = xs₀} m n starts xs ws e f clean p all =
+search_from Arrow {xs₀ = xs₀} {m = m} starts {xs = xs} {ws = ws} e f clean p all =
     let P : ℕ → Type 0 = λ i. Search Arrow (Start i starts) i xs ws in
     let Q : List ℕ → Type 0 = λ u. Grown (Start m starts) m xs₀ u xs ws in
     subst P e (search_begun Arrow (Start m starts) m xs ws clean (subst Q f p) all)
 
--- three equations in a row, where what they join is written out
-pub three_steps : {A : Type 0} (a b c d : A) → a ≡ b → b ≡ c → c ≡ d → a ≡ d
-three_steps a b c d p q r = p ∙ q ∙ r
-
--- each start is marked, once those at all places are
-pub starts_marked : (n : ℕ) (starts ys : List ℕ) →
-    ((i : ℕ) → i < length starts → Within n (get_or starts i 0) → Marked ys (get_or starts i 0)) →
-    (k : ℕ) → Start n starts k → Marked ys k
-starts_marked n starts ys all k s =
-    let P : ℕ → Type 0 = λ j. Within n j → Marked ys j in
-    subst P s.1.1.1 (all s.1.0 s.1.1.0) s.0
+-- the search once the first in line is gone through, where the graph's size and the line are known by equations
+pub search_next : (Arrow : ℕ → ℕ → Type 0) {Starts : ℕ → Type 0} {m n p : ℕ} {xs us ws ys vs : List ℕ} → m ≡ n → us ≡ p ∷ ws →
+    Search Arrow Starts n xs us → Grown (Arrow p) m xs ws ys vs → ((q : ℕ) → Arrow p q → Marked ys q) → Search Arrow Starts n ys vs
+search_next Arrow {Starts = Starts} {n = n} {p = p} {xs = xs} {ws = ws} {ys = ys} {vs = vs} e f s g all =
+    let P : ℕ → Type 0 = λ i. Grown (Arrow p) i xs ws ys vs in
+    let Q : List ℕ → Type 0 = Search Arrow Starts n xs in
+    search_more Arrow Starts n p xs ws ys vs (subst Q f s) (subst P e g) all
 
 -- what room there is
 pub roomy_parts : (n places bytes : ℕ) → true ≡ roomy n places bytes → (n ≤ places) × (n < mark_count) × (n < bytes)

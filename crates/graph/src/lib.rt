@@ -4,3 +4,5 @@
 pub mod marks;
 pub mod queue;
 pub mod reach;
+pub mod scratch;
+mod traversal;

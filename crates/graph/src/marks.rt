@@ -1,5 +1,5 @@
 //! Marks over lent memory.
-ghost use Rattle.std.specs.Prelude.{◌≡◌, min};
+ghost use Rattle.std.specs.Prelude.{◌≡◌, length, min};
 ghost use Rattle.graph.specs.Column.{mark_count, Wiped};
 
 mod methods;
@@ -23,18 +23,17 @@ impl Drop for Marks<'_> {
     }
 }
 
-/// How many of `len` bytes are marks.
-fn mark_bytes(len: usize) -> usize
-    ensures { result ≡ min mark_count len }
+/// How many bytes of `column` are marks.
+fn mark_bytes(column: &[u8]) -> usize
+    ensures { result ≡ min mark_count (length column.now) }
 {
-    MARKS.min(len)
+    MARKS.min(column.len())
 }
 
 /// Sets the marks of `column` to zero.
 fn wipe(column: &mut [u8])
     ensures { Wiped column.old column.new }
 {
-    for i in 0..mark_bytes(column.len()) {
-        column[i] = 0;
-    }
+    let n = mark_bytes(column);
+    column[..n].fill(0);
 }

@@ -4,6 +4,7 @@ ghost use Rattle.std.specs.Prelude.{◌<◌, ◌≤◌, length};
 mod methods;
 
 /// A first-in-first-out queue over slots that are lent to it.
+// A ring by hand: no queue of the library stands in slots that are lent.
 #[derive(Drop)]
 pub struct Queue<'a, T> {
     slots: &'a mut [T],

@@ -1,7 +1,7 @@
 //! A graph that is a list of arrows.
-ghost use Rattle.std.specs.Prelude.{◌≤◌, length, MatchBool};
+ghost use Rattle.std.specs.Prelude.{◌≤◌, length};
 ghost use Rattle.graph.specs.Reach.{Least};
-ghost use Rattle.graph_examples.specs.Arrows.{Listed, Drawn, Closer};
+ghost use Rattle.graph_examples.specs.Arrows.{Listed, Drawn};
 
 use graph::reach::Graph;
 
@@ -14,31 +14,15 @@ pub struct ArrowList<'a> {
     pub arrows: &'a [(u16, u16)],
 }
 
-/// Whether `t` is above `after` and below `best`, and a point up to `points`.
-fn closer(best: Option<usize>, points: usize, after: usize, t: usize) -> bool
-    ensures { MatchBool result (Closer best points after t) (Closer best points after t → ⊥) }
-{
-    if t <= after || points < t {
-        return false;
-    }
-    match best {
-        None => true,
-        Some(b) => t < b,
-    }
-}
-
 /// The least point above `after`, and up to `points`, that a listed arrow from `from` goes to.
 fn least_listed(arrows: &[(u16, u16)], points: usize, from: usize, after: usize) -> Option<usize>
     ensures { Least (λ k. Listed arrows.now (length arrows.now) from k × (k ≤ points)) after result }
 {
-    let mut best = None;
-    for i in 0..arrows.len() {
-        let (x, y) = arrows[i];
-        if x as usize == from && closer(best, points, after, y as usize) {
-            best = Some(y as usize);
-        }
-    }
-    best
+    arrows
+        .iter()
+        .filter(|&&(x, y)| x as usize == from && after < y as usize && y as usize <= points)
+        .map(|&(_, y)| y as usize)
+        .min()
 }
 
 impl Graph for ArrowList<'_> {

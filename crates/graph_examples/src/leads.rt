@@ -6,6 +6,7 @@ ghost use Rattle.graph_examples.specs.Ask.{Leads};
 
 use graph::marks::Marks;
 use graph::reach::{Graph, NoRoom, reach};
+use graph::scratch::Scratch;
 
 /// Whether arrows lead from the point `from` to the point `to`.
 pub fn leads<G: Graph>(
@@ -23,6 +24,10 @@ pub fn leads<G: Graph>(
     ensures wiped { Wiped column.old column.new }
 {
     let mut marks = Marks::new(column);
-    reach(g, &[from], &mut marks, line)?;
+    let mut scratch = Scratch {
+        marks: &mut marks,
+        line,
+    };
+    reach(g, &[from], &mut scratch)?;
     Ok(marks.is_set(to))
 }

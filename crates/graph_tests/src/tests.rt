@@ -2,6 +2,7 @@
 use graph::marks::Marks;
 use graph::queue::Queue;
 use graph::reach::{NoRoom, reach};
+use graph::scratch::Scratch;
 use graph_examples::arrow_list::ArrowList;
 use graph_examples::chain::Chain;
 use graph_examples::leads::leads;
@@ -39,12 +40,10 @@ const REACHED: [([u16; 2], [bool; 8]); 5] = [
 
 /// Whether exactly those numbers are marked that `wanted` has.
 fn agrees(marks: &Marks, wanted: &[bool]) -> bool {
-    for i in 0..wanted.len() {
-        if marks.is_set(i) != wanted[i] {
-            return false;
-        }
-    }
-    true
+    wanted
+        .iter()
+        .enumerate()
+        .all(|(i, &mark)| marks.is_set(i) == mark)
 }
 
 /// Whether a traversal from `starts`, among six points, marks exactly what `wanted` has.
@@ -56,7 +55,11 @@ fn marks_exactly(starts: &[u16], wanted: &[bool]) -> bool {
     let mut column = [9u8; 257];
     let mut line = [0u16; 6];
     let mut marks = Marks::new(&mut column);
-    reach(&g, starts, &mut marks, &mut line) == Ok(()) && agrees(&marks, wanted)
+    let mut scratch = Scratch {
+        marks: &mut marks,
+        line: &mut line,
+    };
+    reach(&g, starts, &mut scratch) == Ok(()) && agrees(&marks, wanted)
 }
 
 /// Whether a traversal with too short a line is refused, and leaves the marks.
@@ -65,7 +68,11 @@ fn refuses_a_short_line() -> bool {
     let mut line = [0u16; 3];
     let mut marks = Marks::new(&mut column);
     marks.set(2);
-    reach(&Chain { points: 4 }, &[1], &mut marks, &mut line) == Err(NoRoom)
+    let mut scratch = Scratch {
+        marks: &mut marks,
+        line: &mut line,
+    };
+    reach(&Chain { points: 4 }, &[1], &mut scratch) == Err(NoRoom)
         && agrees(&marks, &[false, false, true, false, false])
 }
 
@@ -79,13 +86,10 @@ fn marks_what_is_reached(rt: HostRuntime) {
 
 /// Whether the first 257 bytes are zeros and the others are 9.
 fn is_wiped(column: &[u8]) -> bool {
-    for i in 0..column.len() {
-        let wanted = if i < 257 { 0 } else { 9 };
-        if column[i] != wanted {
-            return false;
-        }
-    }
-    true
+    column
+        .iter()
+        .enumerate()
+        .all(|(i, &byte)| byte == if i < 257 { 0 } else { 9 })
 }
 
 /// Whether a question about a chain of `points` points has that answer, and leaves the column wiped.
@@ -135,12 +139,7 @@ fn is_answered(queue: &mut Queue<u16>, step: Step) -> bool {
 /// Whether a queue over `slots` answers as the steps say.
 fn are_answered(slots: &mut [u16], steps: &[Step]) -> bool {
     let mut queue = Queue::new(slots);
-    for step in steps {
-        if !is_answered(&mut queue, *step) {
-            return false;
-        }
-    }
-    true
+    steps.iter().all(|&step| is_answered(&mut queue, step))
 }
 
 /// The places are used again in turn, and a full queue refuses.

@@ -3,7 +3,7 @@ ghost use Rattle.std.specs.Prelude.{◌≡◌, length};
 ghost use Rattle.graph.specs.Column.{covered, marked, with_mark, Kept, Wiped};
 ghost use Rattle.graph.specs.Held.{held};
 
-use super::{MARKS, Marks, wipe};
+use super::{Marks, mark_bytes, wipe};
 
 impl<'a> Marks<'a> {
     /// Takes the column, with no point marked.
@@ -19,17 +19,14 @@ impl<'a> Marks<'a> {
     pub(crate) fn covers(&self, i: usize) -> bool
         ensures { result ≡ covered (length (held self.now)) i }
     {
-        i < MARKS && i < self.column.len()
+        i < mark_bytes(self.column)
     }
 
     /// Whether the point `i` is marked.
     pub fn is_set(&self, i: usize) -> bool
         ensures { result ≡ marked (held self.now) i }
     {
-        if !self.covers(i) {
-            return false;
-        }
-        self.column[i] != 0
+        self.covers(i) && self.column[i] != 0
     }
 
     /// Marks the point `i`; changes nothing where the column has no mark for it.
@@ -38,10 +35,9 @@ impl<'a> Marks<'a> {
         ensures kept { Kept (held self.old) (held self.new) }
         ensures same { self.new.column.ghost_name ≡ self.old.column.ghost_name }
     {
-        if !self.covers(i) {
-            return;
+        if self.covers(i) {
+            self.column[i] = 1;
         }
-        self.column[i] = 1;
     }
 
     /// Takes all marks away.

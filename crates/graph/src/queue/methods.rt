@@ -10,6 +10,7 @@ fn spot(n: usize, head: usize, count: usize) -> usize
     requires { (head < n) × (count < n) }
     ensures { Spot n (head + count) result }
 {
+    // Not the remainder of a sum: of elements that take no memory there may be so many that the sum does not fit.
     let ahead = n - head;
     if count < ahead {
         head + count
@@ -32,6 +33,7 @@ impl<'a, T: Copy> Queue<'a, T> {
     }
 
     /// How many elements wait.
+    #[tactic(auto, using(crate::proofs::Rings::length_waiting))]
     pub fn len(&self) -> usize
         ensures { result ≡ length (waiting self.now) }
     {
@@ -46,6 +48,7 @@ impl<'a, T: Copy> Queue<'a, T> {
     }
 
     /// Puts `x` last; where no place is free, hands it back.
+    #[tactic(auto, using(crate::proofs::Rings::length_waiting))]
     pub fn push(&mut self, x: T) -> Result<(), T>
         ensures test { is_ok result ≡ nat_lt (length (waiting self.old)) (places self.old) }
         ensures waiting { waiting self.new

@@ -1,25 +1,24 @@
-use Rattle.std.proofs.Common.{◌<◌, ◌≢◌, length, ◌∙◌, inl, inr, arith, below_more}
-use Rattle.std.proofs.lemmas.List.{get_or-set_same, get_or-set_other, get_or_past}
+use Rattle.std.proofs.Common.{◌≡◌, ℕ, ◌-◌, List, ◌++◌, length, get_or, drop, ap, ◌∙◌, inl, inr, arith}
 use Rattle.std.proofs.lemmas.Bool.{cases_lt}
+use Rattle.std.proofs.lemmas.List.{get_or_append_left, get_or-append_right, get_or-drop, get_or_past, get_or-replicate, length-append, length-drop, length-take}
 use Rattle.graph.proofs.marks.wipe.Goals as goal
-
-pub loop-i-preserved : goal.loop-i-preserved
-loop-i-preserved c =
-    let i = c.loop-i.i in
-    let xs = c.loop-i.column in
-    let lt : i < length xs = omega arith in (
-      below_more _ _ (λ k h. let ne : k ≢ i = omega arith in rw get_or-set_other (c.loop-i.invariant.0 k h)) (rw get_or-set_same),
-      λ k h. get_or-set_other xs i k 0 0 (λ z. omega arith) ∙ c.loop-i.invariant.1 k h,
-    )
 
 pub returns : goal.returns
 returns c =
-    let xs = c.loop-i.column in
+    let xs = c.args.column.now in
+    let n = c.mark_bytes-n.result in
+    let ys = c.fill.new.self in
+    let zeros = c.fill.ensures.after (λ y e. e) in
+    let front : length ys ≡ n = c.fill.ensures.len ∙ simp length-take (omega (arith, c.mark_bytes-n.ensures)) in
+    let back = length-drop n xs in
+    let size : length (ys ++ drop n xs) ≡ length xs = length-append ys (drop n xs) ∙ omega (arith, front, back, c.mark_bytes-n.ensures) in
     record {
-      zeros = λ k h. elim (cases_lt k c.loop-i.i) [
-        | inl low ↦ c.loop-i.invariant.0 k low
-        | inr high ↦ get_or_past xs k 0 (omega arith)
+      zeros = λ k h. elim (cases_lt k n) [
+        | inl low ↦ get_or_append_left ys (drop n xs) 0 k (omega (arith, front)) ∙ ap (λ (zs : List ℕ). get_or zs k 0) zeros
+            ∙ get_or-replicate _ k 0 0 (omega (arith, front, c.fill.ensures.len))
+        | inr high ↦ get_or_past (ys ++ drop n xs) k 0 (omega (arith, size, c.mark_bytes-n.ensures))
       ];
-      rest = c.loop-i.invariant.1;
-      size = c.loop-i.auto.column;
+      rest = λ k h. get_or-append_right ys (drop n xs) n k 0 front (omega (arith, c.mark_bytes-n.ensures))
+          ∙ get_or-drop n xs (k - n) 0 ∙ ap (λ (i : ℕ). get_or xs i 0) (omega (arith, c.mark_bytes-n.ensures));
+      size = size;
     }

@@ -1,31 +1,23 @@
-use Rattle.std.proofs.Common.{◌≡◌, ℕ, ◌+◌, length, Option, sym, subst, arith}
+use Rattle.std.proofs.Common.{◌≡◌, ℕ, Option, sym, ◌∙◌, subst, rules, tests}
+use Rattle.std.proofs.lemmas.Iterator.{YieldsList-from_slice, YieldsList-from_map}
+use Rattle.std.proofs.lemmas.Iterator.Adapters.{option_map_id}
+use Rattle.std.proofs.lemmas.Iterator.Consumers.{YieldsList-from_filter, YieldsList-at, min_from_yields_List}
+use Rattle.std.specs.List.{reduce}
+use Rattle.std.specs.Option.{option_map}
+use Rattle.std.specs.Prelude.{min}
 use Rattle.graph.specs.Reach.{Least}
-use Rattle.graph_examples.proofs.Leasts.{Seen, least_skip, least_take}
+use Rattle.graph_examples.proofs.Leasts.{targets, Seen, least_target}
 use Rattle.graph_examples.proofs.arrow_list.least_listed.Goals as goal
-use Rattle.graph_examples.proofs.arrow_list.least_listed.Goals.{then-x-from+then-closer, else-x-from}
-use Rattle.graph_examples.proofs.arrow_list.least_listed.Goals.{else-x-from-via-then-x-from+else-closer, else-x-from-via-else-x-from}
-
-pub loop-i-preserved : goal.loop-i-preserved
-loop-i-preserved c =
-    let xs = c.args.arrows.now in
-    let i = c.loop-i.i in
-    let best = c.loop-i.best in
-    let P : Option ℕ → Type 0 = λ b. Least (Seen xs c.args.from c.args.points c.args.after (i + 1)) c.args.after b in
-    elim c.if-x-from.branch [
-      | then-x-from+then-closer w ↦ subst P (sym w.best-is)
-          (least_take xs c.args.from c.args.points c.args.after i best
-          w.if-x-from.true w.if-closer.ensures c.loop-i.invariant)
-      | else-x-from w ↦ subst P (sym w.best-is)
-          (least_skip xs c.args.from c.args.points c.args.after i best
-          (elim w.else-x-from.branch [
-            | else-x-from-via-then-x-from+else-closer v ↦ λ e b. v.if-closer.ensures b
-            | else-x-from-via-else-x-from v ↦ λ e b. v.if-x-from.false e
-          ]) c.loop-i.invariant)
-    ]
 
 pub returns : goal.returns
 returns c =
-    let e : c.loop-i.i ≡ length c.args.arrows.now = omega arith in
-    let P : ℕ → Type 0 = λ m. Least (Seen c.args.arrows.now c.args.from c.args.points c.args.after m)
-    c.args.after c.loop-i.best in
-    subst P e c.loop-i.invariant
+    let xs = c.args.arrows.now in
+    let from = c.args.from in
+    let points = c.args.points in
+    let after = c.args.after in
+    let P : Option ℕ → Type 0 = Least (Seen from points after xs) after in
+    let is : option_map (λ x. x) c.min.result ≡ reduce min (targets from points after xs) =
+    min_from_yields_List _ c.min.result c.min.ensures.ran (YieldsList-from_map _ _
+    (YieldsList-at c.map.ensures.source (YieldsList-from_filter _ _ (YieldsList-from_slice xs cc)
+    c.filter.ensures.closure (λ x r q k. search (rules, tests)))) c.map.ensures.closure (λ x r q k. search rules)) in
+    subst P (sym is ∙ option_map_id c.min.result) (least_target from points after xs)

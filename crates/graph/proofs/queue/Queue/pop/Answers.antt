@@ -1,10 +1,10 @@
-use Rattle.std.proofs.Common.{◌<◌, length, inl, inr, arith, rules}
+use Rattle.std.proofs.Common.{◌<◌, length, inl, inr, arith}
 use Rattle.graph.proofs.Rings.{sound, ring_next, Next}
 use Rattle.graph.proofs.queue.Queue.pop.Goals as goal
 use Rattle.graph.proofs.queue.Queue.pop.Goals.{then-self-n, else-self-n}
 
-pub returns : goal.returns
-returns g c =
+pub returns-clause-waiting : goal.returns-clause-waiting
+returns-clause-waiting g c =
     let q = c.args.self.now in
     let pos : 0 < q.count = omega arith in
     let to : Next (length q.slots.now) q.head c.if-self-n.self =
@@ -14,7 +14,4 @@ returns g c =
         | else-self-n w ↦ inr (w.self-is, w.if-self-n.false)
       ];
     } in
-    record {
-      waiting = ring_next q.slots.now q.head q.count c.if-self-n.self c.index-self-self.result (sound q) pos to;
-      places = search rules;
-    }
+    ring_next q.slots.now q.head q.count c.if-self-n.self c.index-self-self.result (sound q) pos to
