@@ -1,6 +1,6 @@
 -- The stored form of good records is read back record by record. Assumes nothing.
-use Rattle.std.proofs.Common.{◌≡◌, ℕ, ◌+◌, ◌<◌, ◌≤◌, true, List, [], ◌∷◌, ◌++◌, length, get_or, drop, Some, Ok, Result, sym, refl, ap, ◌∙◌, subst, ap₂, ⊎_elim, append_assoc, append-nil, arith, length-append}
-use Rattle.std.proofs.lemmas.List.{drop_at}
+use Rattle.std.proofs.Common.{◌≡◌, ℕ, ◌+◌, ◌<◌, ◌≤◌, List, [], ◌∷◌, ◌++◌, length, get_or, drop, Some, Ok, Result, sym, refl, ap, ◌∙◌, subst, ap₂, ⊎_elim, append_assoc, append-nil, arith, length-append}
+use Rattle.std.proofs.lemmas.List.{drop_at, length_push}
 use Rattle.std.proofs.lemmas.Bool.{cases_lt}
 use Rattle.values.specs.declared.Fault.{Fault}
 use Rattle.values.specs.declared.Kind.{Kind}
@@ -8,18 +8,18 @@ use Rattle.values.specs.declared.Kind.TheVariants.{Score, Fee}
 use Rattle.values.specs.Numbers.{kind_number}
 use Rattle.process.specs.declared.parts.Arrow.{Arrow}
 use Rattle.process.specs.declared.cursor.Cursor.{Cursor}
-use Rattle.process.specs.declared.cursor.Expected.{Expected}
-use Rattle.process.specs.declared.cursor.Expected.TheVariants.{HeaderRecord, StepRecord, ArrowRecord}
+use Rattle.process.specs.Reading.{Expected}
+use Rattle.process.specs.Reading.{HeaderRecord, StepRecord, ArrowRecord}
 use Rattle.process.specs.Stored.{Named, Plan, All, Nameable, Placed, Before, Rising, no_arrow}
 use Rattle.process.specs.Stored.{header_form, step_form, arrow_form, steps_form, arrows_form, step_fields, header_fields}
 use Rattle.process.specs.Reading.{header, step, arrow, got, moved, next, next_of, start, no_plan, with_record}
-use Rattle.process.specs.Reading.{header_at, step_at, name_length, read_arrow, Scans, Scan, more}
+use Rattle.process.specs.Reading.{last_arrow, header_done, header_at, step_at, name_length, read_arrow, Scans, Scan, more}
 use Rattle.process.specs.Good.{Good, GoodHeader, GoodStep, GoodArrow}
 use Rattle.process.specs.Front.{Front, nothing_read, read_so_far, SoFar, cursor_after, last_of}
 use Rattle.process.proofs.Nexts.{next_given}
 use Rattle.process.proofs.Checks.{good_passes}
 use Rattle.process.proofs.Forms.{header_forth, step_forth, arrow_forth, step_read, arrow_read}
-use Rattle.process.proofs.Fronts.{step_length, step_cursor, arrow_cursor, header_cursor, last_push, length_push}
+use Rattle.process.proofs.Fronts.{step_length, step_cursor, arrow_cursor, header_cursor, last_push, last_kept}
 
 -- a good record is read
 pub next_by : (e : Expected) (xs : List ℕ) (c : Cursor) → Good e xs c → next xs c ≡ Ok (got e xs c)
@@ -47,7 +47,7 @@ header_absorbed n m xs lo hi few =
       few_arrows = subst (λ (k : ℕ). k ≤ 512) (sym m_is) few;
     } in
     let cursor : moved HeaderRecord ys start ≡ cursor_after n m no_plan =
-    ap₂ (λ (j k : ℕ). record { place = 4; begun = true; steps = j; steps_left = j; arrows_left = k; last = no_arrow }) n_is m_is
+    ap₂ (λ (j k : ℕ). record { place = 4; progress = Some (header_done j k) }) n_is m_is
     ∙ sym (header_cursor n m) in
     next_by HeaderRecord ys start g
     ∙ λ i. Ok (record { said = Some (header (n_is i) (m_is i)); rest = xs; cursor = cursor i })
@@ -112,7 +112,8 @@ module _ (n m : ℕ) (p : Plan) where
         from_high = subst (λ (x : Arrow). x.from ≤ n) (sym is) fh;
         to_high = subst (λ (x : Arrow). x.to ≤ n) (sym is) th;
         to_low = subst (λ (x : Arrow). x.to ≡ 1 → ⊥) (sym is) (λ e. omega arith);
-        rising = subst (λ (x : Arrow). Before c.last x) (sym is) rises;
+        rising = subst (λ (x : Arrow). Before (last_arrow c) x) (sym is)
+            (subst (λ (x : Arrow). Before x a) (sym (last_kept p.arrows)) rises);
       } in
       let cursor = arrow_cursor n m p a ys is in
       next_by ArrowRecord ys c g

@@ -7,7 +7,7 @@ use Rattle.values.specs.declared.Fault.{Fault}
 use Rattle.graph.specs.Reach.{Within}
 use Rattle.process.specs.declared.parts.Arrow.{Arrow}
 use Rattle.process.specs.declared.accepted.Process.{Process}
-use Rattle.process.specs.declared.cursor.Expected.TheVariants.{NoRecord}
+use Rattle.process.specs.Reading.{NoRecord}
 use Rattle.process.specs.Stored.{Plan, Fine, Formed, Sound, stored}
 use Rattle.process.specs.Reading.{Scan, declined, ended, expected, FirstUnfit}
 use Rattle.process.specs.Reading.{Answer, faulty, unfit, accepted}

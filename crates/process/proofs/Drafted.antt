@@ -1,12 +1,14 @@
 -- What tables that hold a process say of it. Assumes nothing.
-use Rattle.std.proofs.Common.{◌≡◌, ℕ, suc, ◌<◌, List, [], ◌∷◌, length, get_or, vec_items, vec_len, Option, ap, ◌∙◌, subst}
+use Rattle.std.proofs.Common.{◌≡◌, ℕ, suc, ◌<◌, List, [], ◌∷◌, length, get_or, vec_items, vec_len, Option, sym, ap, ◌∙◌, subst}
 use Rattle.std.proofs.lemmas.List.{length-map}
 use Rattle.process.specs.declared.parts.Step.{Step}
 use Rattle.process.specs.declared.parts.Arrow.{Arrow}
 use Rattle.process.specs.declared.tables.Draft.{Draft}
-use Rattle.process.specs.Stored.{Named, Plan}
-use Rattle.process.specs.Shape.{Shaped}
-use Rattle.process.specs.Drafts.{bare, bare_plan}
+use Rattle.process.specs.Stored.{Named, Plan, Formed}
+use Rattle.process.specs.Shape.{Inside, Shaped}
+use Rattle.process.specs.Drafts.{bare, bare_plan, Filled}
+use Rattle.process.specs.Front.{nothing_read}
+use Rattle.process.proofs.Outcomes.{scan_outcome}
 use Rattle.process.proofs.Forms.{Bytes}
 
 -- elements that all fit eight bits are bytes
@@ -30,3 +32,18 @@ module _ (d : Draft) (p : Plan) (h : bare d ≡ bare_plan p) where
 pub shaped_at : {ys zs : List Arrow} {m n : ℕ} (r : Option ℕ) → ys ≡ zs → m ≡ n → Shaped ys m r → Shaped zs n r
 shaped_at {ys = ys} {n = n} r e f s =
     subst (λ (a : List Arrow). Shaped a n r) e (subst (λ (k : ℕ). Shaped ys k r) f s)
+
+-- arrows inside equal steps
+pub inside_at : {ys zs : List Arrow} {m n : ℕ} → ys ≡ zs → m ≡ n → Inside n zs → Inside m ys
+inside_at {ys = ys} {n = n} e f s =
+    subst (λ (k : ℕ). Inside k ys) (sym f) (subst (λ (a : List Arrow). Inside n a) (sym e) s)
+
+-- the steps and arrows that a draft shows are those of the process that it holds: rising, and with the shape that was found
+module _ {xs : List ℕ} (d : Draft) (f : Filled xs d) where
+  pub draft_formed : Bytes xs → Formed f.plan
+  draft_formed b = (scan_outcome xs b nothing_read f.scan).0
+
+  pub draft_shaped : {ys : List Arrow} {n : ℕ} (r : Option ℕ) → ys ≡ vec_items d.arrows → n ≡ vec_len d.steps
+      → Shaped ys n r → Shaped f.plan.arrows (length f.plan.steps) r
+  draft_shaped r e g =
+      shaped_at r (e ∙ draft_arrows d f.plan f.holds) (g ∙ draft_steps d f.plan f.holds)

@@ -1,12 +1,13 @@
 -- What was read so far, with one record more. Assumes nothing.
-use Rattle.std.proofs.Common.{◌≡◌, ℕ, ◌+◌, ◌-◌, true, List, [], ◌∷◌, ◌++◌, length, sym, refl, ap, ◌∙◌, append_assoc, append-nil, arith, length-append}
+use Rattle.std.proofs.Common.{◌≡◌, ℕ, ◌+◌, ◌-◌, List, [], ◌∷◌, ◌++◌, length, Some, None, sym, refl, ap, ◌∙◌, append_assoc, append-nil, arith, length-append}
+use Rattle.std.proofs.lemmas.List.{length_push}
 use Rattle.process.specs.declared.parts.Arrow.{Arrow}
-use Rattle.process.specs.declared.cursor.Expected.TheVariants.{StepRecord, ArrowRecord}
+use Rattle.process.specs.Reading.{StepRecord, ArrowRecord}
 use Rattle.process.specs.Stored.{Named, Plan, All, Before, Rising, no_arrow}
 use Rattle.process.specs.Bits.{pack, unpack, two_bytes}
 use Rattle.process.specs.Stored.{step_widths, step_fields, header_form, step_form, arrow_form, steps_form, arrows_form, form_of}
-use Rattle.process.specs.Reading.{moved, name_length, read_arrow, with_record, step, arrow, no_plan}
-use Rattle.process.specs.Front.{last_of, cursor_after}
+use Rattle.process.specs.Reading.{arrow_or_none, header_done, moved, name_length, read_arrow, with_record, step, arrow, no_plan}
+use Rattle.process.specs.Front.{last_of, last_in, cursor_after}
 
 pub all_push : {X : Type 0} (P : X → Type 0) (xs : List X) (x : X) → All P xs → P x → All P (xs ++ x ∷ [])
 all_push P [] x h p = (p, tt)
@@ -28,13 +29,19 @@ pub last_push : (none : Arrow) (zs : List Arrow) (a : Arrow) → last_of none (z
 last_push none [] a = refl
 last_push none (z ∷ zs) a = last_push z zs a
 
+pub last_in_push : (zs : List Arrow) (a : Arrow) → last_in (zs ++ a ∷ []) ≡ Some a
+last_in_push [] a = refl
+last_in_push (z ∷ zs) a = ap (λ (x : Arrow). Some x) (last_push z zs a)
+
+-- as the reader keeps it
+pub last_kept : (zs : List Arrow) → arrow_or_none (last_in zs) ≡ last_of no_arrow zs
+last_kept [] = refl
+last_kept (z ∷ zs) = refl
+
 pub rising_push : (none : Arrow) (zs : List Arrow) (a : Arrow) → Rising none zs → Before (last_of none zs) a
     → Rising none (zs ++ a ∷ [])
 rising_push none [] a r b = (b, tt)
 rising_push none (z ∷ zs) a r b = (r.0, rising_push z zs a r.1 b)
-
-pub length_push : {X : Type 0} (xs : List X) (x : X) → length (xs ++ x ∷ []) ≡ length xs + 1
-length_push xs x = length-append xs (x ∷ [])
 
 -- how long a form is
 form_length : (n m : ℕ) (p : Plan) → length (form_of n m p) ≡ 4 + (length (steps_form p.steps) + length (arrows_form p.arrows))
@@ -59,11 +66,7 @@ module _ (n m : ℕ) (p : Plan) where
       let left : (n - length p.steps) - 1 ≡ n - length q.steps = omega (arith, length_push p.steps s) in
       λ i. record {
         place = long i;
-        begun = true;
-        steps = n;
-        steps_left = left i;
-        arrows_left = m - length p.arrows;
-        last = last_of no_arrow p.arrows;
+        progress = Some (record { steps = n; steps_left = left i; arrows_left = m - length p.arrows; last = last_in p.arrows });
       }
 
   -- and after an arrow more
@@ -77,23 +80,19 @@ module _ (n m : ℕ) (p : Plan) where
       let pushed = ap length (arrows_form_push p.arrows a) ∙ length-append (arrows_form p.arrows) (arrow_form a) in
       omega arith in
       let left : (m - length p.arrows) - 1 ≡ m - length q.arrows = omega (arith, length_push p.arrows a) in
-      let last_is = e ∙ sym (last_push no_arrow p.arrows a) in
+      let last_is = ap (λ (x : Arrow). Some x) e ∙ sym (last_in_push p.arrows a) in
       λ i. record {
         place = long i;
-        begun = true;
-        steps = n;
-        steps_left = n - length p.steps;
-        arrows_left = left i;
-        last = last_is i;
+        progress = Some (record { steps = n; steps_left = n - length p.steps; arrows_left = left i; last = last_is i });
       }
 
 -- where it stands after the header
 pub header_cursor : (n m : ℕ) → cursor_after n m no_plan
-    ≡ record { place = 4; begun = true; steps = n; steps_left = n; arrows_left = m; last = no_arrow }
+    ≡ record { place = 4; progress = Some (header_done n m) }
 header_cursor n m =
     let left : n - 0 ≡ n = omega arith in
     let more_left : m - 0 ≡ m = omega arith in
-    λ i. record { place = 4; begun = true; steps = n; steps_left = left i; arrows_left = more_left i; last = no_arrow }
+    λ i. record { place = 4; progress = Some (record { steps = n; steps_left = left i; arrows_left = more_left i; last = None }) }
 
 -- the form with a step more, before the first arrow, and with an arrow more
 pub form_step : (n m : ℕ) (p : Plan) (s : Named) (place : ℕ) → p.arrows ≡ []

@@ -1,12 +1,13 @@
 -- A scan of bytes, by the stored form of what it reads. Assumes nothing.
 use Rattle.std.proofs.Common.{◌≡◌, ℕ, ◌+◌, ◌<◌, ◌≤◌, true, false, List, ◌++◌, length, drop, Some, None, Ok, Err, Result, sym, refl, ap, ◌∙◌, subst, ap₂, append-nil, arith}
 use Rattle.std.proofs.lemmas.Bool.{both_ways}
-use Rattle.std.proofs.lemmas.List.{length-take-le, length-drop}
+use Rattle.std.proofs.lemmas.List.{length-take-le, length-drop, length_push, nil_from_length}
 use Rattle.values.specs.declared.Fault.{Fault}
+use Rattle.process.specs.declared.parts.Arrow.{Arrow}
 use Rattle.process.specs.declared.cursor.Cursor.{Cursor}
-use Rattle.process.specs.declared.cursor.Expected.{Expected}
-use Rattle.process.specs.declared.cursor.Expected.TheVariants.{HeaderRecord, StepRecord, ArrowRecord, NoRecord}
-use Rattle.process.specs.Stored.{Plan, All, Nameable, Placed, Formed, stored, step_form, arrow_form, form_of, no_arrow}
+use Rattle.process.specs.Reading.{Expected}
+use Rattle.process.specs.Reading.{HeaderRecord, StepRecord, ArrowRecord, NoRecord}
+use Rattle.process.specs.Stored.{Plan, All, Nameable, Placed, Before, Formed, stored, step_form, arrow_form, form_of, no_arrow}
 use Rattle.process.specs.Reading.{Record, step, arrow, Got, says, size, moved, next, expected, no_plan, with_record}
 use Rattle.process.specs.Reading.{checks, got, Scans, declined, more, ended}
 use Rattle.process.specs.Reading.{header_at, word2, name_length, read_step, read_arrow}
@@ -14,8 +15,8 @@ use Rattle.process.specs.Good.{Good, GoodHeader, GoodStep, GoodArrow, GoodEnd}
 use Rattle.process.specs.Front.{FirstFault, in_record, Front, nothing_read, read_so_far, SoFar, cursor_after}
 use Rattle.process.proofs.Packing.{unpack_fit}
 use Rattle.process.proofs.Forms.{Bytes, bytes_drop, header_back, step_back, arrow_back}
-use Rattle.process.proofs.Fronts.{all_push, rising_push, length_push, step_cursor, arrow_cursor, header_cursor, form_step, form_arrow, form_on}
-use Rattle.process.proofs.Rooms.{some_same, next_good, empty_if}
+use Rattle.process.proofs.Fronts.{all_push, last_kept, rising_push, step_cursor, arrow_cursor, header_cursor, form_step, form_arrow, form_on}
+use Rattle.process.proofs.Rooms.{some_same, next_good}
 use Rattle.process.proofs.Nexts.{answer_err}
 use Rattle.values.specs.Checks.{first_fault}
 use Rattle.process.specs.Stored.{step_widths}
@@ -106,7 +107,8 @@ module _ (xs : List ℕ) where
         steps_first = λ less. absurd (omega arith);
         named = s.named;
         placed = all_push (Placed n) p.arrows a s.placed placed;
-        rising = rising_push no_arrow p.arrows a s.rising g.rising;
+        rising = rising_push no_arrow p.arrows a s.rising
+            (subst (λ (x : Arrow). Before x a) (last_kept p.arrows) g.rising);
       } in
       let bytes = form_on (form_of n m p) _ (arrow_form a) xs _ rest (form_arrow n m p a)
       (arrow_back rest b g.long g.spare_is) e in
@@ -156,7 +158,7 @@ front_end xs _ _ _ g nothing_read = absurd (both_ways false refl g.begun)
 front_end xs rest _ p g (read_so_far n m s e) =
     let n_is : n ≡ length p.steps = omega (arith, g.no_step, s.steps_in) in
     let m_is : m ≡ length p.arrows = omega (arith, g.no_arrow_left, s.arrows_in) in
-    let all : xs ≡ form_of n m p = e ∙ ap (λ (ys : List ℕ). form_of n m p ++ ys) (empty_if rest g.none_left) ∙ append-nil (form_of n m p) in (
+    let all : xs ≡ form_of n m p = e ∙ ap (λ (ys : List ℕ). form_of n m p ++ ys) (nil_from_length rest g.none_left) ∙ append-nil (form_of n m p) in (
       record {
         some_steps = subst (λ (k : ℕ). 1 ≤ k) n_is s.some_steps;
         few_steps = subst (λ (k : ℕ). k ≤ 64) n_is s.few_steps;

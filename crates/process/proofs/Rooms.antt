@@ -1,17 +1,19 @@
 -- The reader's answers as steps of a scan, and the room in the tables along it. Assumes nothing.
-use Rattle.std.proofs.Common.{◌≡◌, ℕ, ◌+◌, ◌<◌, ◌≤◌, true, false, List, [], ◌∷◌, length, drop, Some, None, Ok, Err, Option, Result, sym, refl, ap, ◌∙◌, subst, arith, length-drop}
+use Rattle.std.proofs.Common.{◌≡◌, ℕ, ◌+◌, ◌-◌, ◌<◌, ◌≤◌, true, false, List, [], ◌∷◌, length, drop, Some, None, Ok, Err, Option, Result, sym, refl, ap, ◌∙◌, subst, arith, length-drop}
 use Rattle.std.proofs.lemmas.Bool.{both_ways}
 use Rattle.std.proofs.lemmas.List.{map-append}
 use Rattle.values.specs.Checks.{first_fault}
 use Rattle.values.specs.declared.Fault.{Fault}
+use Rattle.std.specs.Option.{is_some, option_map, option_map_or}
+use Rattle.process.specs.declared.cursor.Progress.{Progress}
 use Rattle.process.specs.declared.cursor.Cursor.{Cursor}
-use Rattle.process.specs.declared.cursor.Expected.{Expected}
-use Rattle.process.specs.declared.cursor.Expected.TheVariants.{HeaderRecord, StepRecord, ArrowRecord, NoRecord}
+use Rattle.process.specs.Reading.{Expected}
+use Rattle.process.specs.Reading.{HeaderRecord, StepRecord, ArrowRecord, NoRecord}
 use Rattle.process.specs.declared.parts.Step.{Step}
 use Rattle.process.specs.declared.parts.Arrow.{Arrow}
 use Rattle.process.specs.Stored.{Plan, Named}
 use Rattle.process.specs.Good.{Good}
-use Rattle.process.specs.Reading.{Record, header, step, arrow, Got, expected, checks, got, next, size, moved, says, name_length, with_record}
+use Rattle.process.specs.Reading.{step_done, arrow_done, read_arrow, is_begun, steps_to_come, arrows_to_come, Record, header, step, arrow, Got, expected, checks, got, next, size, moved, says, name_length, with_record}
 use Rattle.process.specs.Reading.{start, no_plan, Scans, Scan, declined, more, ended}
 use Rattle.process.specs.declared.parts.Item.{Item}
 use Rattle.process.specs.Items.{record_of, told, said_by, stand_after}
@@ -55,8 +57,8 @@ next_good xs c g e =
 -- how many steps and arrows may still come, with those in the tables, is never too many
 abbrev pub Room : Cursor → ℕ → ℕ → Type 0
 Room c a b =
-    (c.begun ≡ false → (a ≡ 0) × (b ≡ 0))
-    × (c.begun ≡ true → (a + c.steps_left ≤ 64) × (b + c.arrows_left ≤ 512))
+    (is_begun c ≡ false → (a ≡ 0) × (b ≡ 0))
+    × (is_begun c ≡ true → (a + steps_to_come c ≤ 64) × (b + arrows_to_come c ≤ 512))
 
 -- what holds after a step of the scan
 pub record Onward (xs : List ℕ) (a b : ℕ) (i : Record) (ys : List ℕ) (d : Cursor) : Type 0 where
@@ -80,6 +82,27 @@ some_same e = cc
 shorter_by : (n : ℕ) (xs : List ℕ) → 2 ≤ n → n ≤ length xs → length (drop n xs) < length xs
 shorter_by n xs lo hi = simp length-drop (omega arith)
 
+-- what is still to come after a step, and after an arrow
+still_begun : (f : Progress → Progress) (o : Option Progress) → is_some (option_map f o) ≡ is_some o
+still_begun f None = refl
+still_begun f (Some p) = refl
+
+step_less : (o : Option Progress) → option_map_or (λ p. p.steps_left) (option_map step_done o) 0 ≡ option_map_or (λ p. p.steps_left) o 0 - 1
+step_less None = refl
+step_less (Some p) = refl
+
+arrows_same : (o : Option Progress) → option_map_or (λ p. p.arrows_left) (option_map step_done o) 0 ≡ option_map_or (λ p. p.arrows_left) o 0
+arrows_same None = refl
+arrows_same (Some p) = refl
+
+steps_same : (a : Arrow) (o : Option Progress) → option_map_or (λ p. p.steps_left) (option_map (arrow_done a) o) 0 ≡ option_map_or (λ p. p.steps_left) o 0
+steps_same a None = refl
+steps_same a (Some p) = refl
+
+arrow_less : (a : Arrow) (o : Option Progress) → option_map_or (λ p. p.arrows_left) (option_map (arrow_done a) o) 0 ≡ option_map_or (λ p. p.arrows_left) o 0 - 1
+arrow_less a None = refl
+arrow_less a (Some p) = refl
+
 module _ (xs : List ℕ) (c : Cursor) (a b : ℕ) (r : Room c a b) where
   onward_got : (e : Expected) → Good e xs c → (i : Record) → says e xs c ≡ Some i
       → Onward xs a b i (drop (size e xs) xs) (moved e xs c)
@@ -96,15 +119,22 @@ module _ (xs : List ℕ) (c : Cursor) (a b : ℕ) (r : Room c a b) where
       subst (λ (j : Record). Onward xs a b j (drop (size StepRecord xs) xs) (moved StepRecord xs c)) (some_same s) (record {
         steps_fit = omega (arith, left.0, g.wanted);
         arrows_fit = omega (arith, left.1);
-        room = (λ f. absurd (both_ways c.begun f g.begun), λ t. (omega (arith, left.0, g.wanted), omega (arith, left.1)));
+        room = (
+          λ f. absurd (both_ways (is_begun c) (sym (still_begun step_done c.progress) ∙ f) g.begun),
+          λ t. (omega (arith, left.0, g.wanted, step_less c.progress), omega (arith, left.1, arrows_same c.progress)),
+        );
         shorter = shorter_by (size StepRecord xs) xs (at_least_2 (name_length xs)) g.long;
       })
   onward_got ArrowRecord g i s =
+      let z = read_arrow xs in
       let left = r.1 g.begun in
       subst (λ (j : Record). Onward xs a b j (drop 2 xs) (moved ArrowRecord xs c)) (some_same s) (record {
         steps_fit = omega (arith, left.0);
         arrows_fit = omega (arith, left.1, g.wanted);
-        room = (λ f. absurd (both_ways c.begun f g.begun), λ t. (omega (arith, left.0), omega (arith, left.1, g.wanted)));
+        room = (
+          λ f. absurd (both_ways (is_begun c) (sym (still_begun (arrow_done z) c.progress) ∙ f) g.begun),
+          λ t. (omega (arith, left.0, steps_same z c.progress), omega (arith, left.1, g.wanted, arrow_less z c.progress)),
+        );
         shorter = shorter_by 2 xs (omega arith) g.long;
       })
   onward_got NoRecord g i s = let z : ◌≡◌ {A = ℕ} 0 1 = cc in absurd (omega arith)
@@ -165,7 +195,3 @@ module _ {xs rest : List ℕ} {c : Cursor} {t : List Step × List Arrow} {a b : 
   pub partly_ended : {ys : List ℕ} {d : Cursor} → next rest c ≡ Ok (record { said = None; rest = ys; cursor = d })
       → Scan xs (Ok p.plan)
   partly_ended e = p.onwards _ (ended e)
-
-pub empty_if : {X : Type 0} (xs : List X) → length xs ≡ 0 → xs ≡ []
-empty_if [] e = refl
-empty_if (x ∷ xs) e = absurd (omega arith)

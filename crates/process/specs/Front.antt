@@ -1,5 +1,5 @@
 -- The first fault from left to right: all that stands before it is good. Assumes nothing.
-use Rattle.std.specs.Prelude.{◌≡◌, ℕ, ◌-◌, ◌<◌, ◌≤◌, true, List, [], ◌∷◌, ◌++◌, length, Some}
+use Rattle.std.specs.Prelude.{◌≡◌, ℕ, ◌-◌, ◌<◌, ◌≤◌, List, [], ◌∷◌, ◌++◌, length, Some, None, Option}
 use Rattle.values.specs.Checks.{first_fault}
 use Rattle.values.specs.declared.Cause.TheVariants.{WrongStep}
 use Rattle.values.specs.declared.Layer.TheVariants.{Reader}
@@ -13,6 +13,11 @@ use Rattle.process.specs.Reading.{start, no_plan, expected, checks, FirstUnfit}
 abbrev pub last_of : Arrow → List Arrow → Arrow
 last_of none [] = none
 last_of none (a ∷ zs) = last_of a zs
+
+-- the last arrow, if there is one
+abbrev pub last_in : List Arrow → Option Arrow
+last_in [] = None
+last_in (a ∷ zs) = Some (last_of a zs)
 
 -- some steps of n, and then, once all steps are there, some arrows of m, without fault
 pub record SoFar (n m : ℕ) (p : Plan) : Type 0 where
@@ -30,11 +35,12 @@ pub record SoFar (n m : ℕ) (p : Plan) : Type 0 where
 abbrev pub cursor_after : ℕ → ℕ → Plan → Cursor
 cursor_after n m p = record {
   place = length (form_of n m p);
-  begun = true;
-  steps = n;
-  steps_left = n - length p.steps;
-  arrows_left = m - length p.arrows;
-  last = last_of no_arrow p.arrows;
+  progress = Some (record {
+    steps = n;
+    steps_left = n - length p.steps;
+    arrows_left = m - length p.arrows;
+    last = last_in p.arrows;
+  });
 }
 
 -- the bytes xs begin with the stored form of p, which is without fault; `rest` is left

@@ -2,7 +2,7 @@
 use Rattle.std.specs.Prelude.{◌≡◌, ℕ, List, Some, None, Ok, Err, Option, Result}
 use Rattle.values.specs.declared.Fault.{Fault}
 use Rattle.process.specs.declared.cursor.Cursor.{Cursor}
-use Rattle.process.specs.declared.cursor.Expected.{Expected}
+use Rattle.process.specs.Reading.{Expected}
 use Rattle.process.specs.declared.parts.Item.{Item}
 use Rattle.process.specs.declared.parts.Item.TheVariants.{Header, Step, Arrow}
 use Rattle.process.specs.declared.reader.Reader.{Reader}

@@ -1,5 +1,6 @@
 -- What the reader answers for any bytes: each record's checks in their order, record by record. Assumes nothing.
-use Rattle.std.specs.Prelude.{◌≡◌, ℕ, ◌+◌, ◌-◌, ◌<◌, ◌≤◌, Bool, true, false, cond, not, ◌&&◌, ◌||◌, List, [], ◌∷◌, ◌++◌, length, take, drop, Some, None, Ok, Err, Option, Result, ◌==◌, nat_lt, slice_index}
+use Rattle.std.specs.Prelude.{◌≡◌, ℕ, ◌+◌, ◌-◌, ◌<◌, ◌≤◌, Bool, cond, not, ◌&&◌, ◌||◌, List, [], ◌∷◌, ◌++◌, length, take, drop, Some, None, Ok, Err, Option, Result, ◌==◌, nat_lt, slice_index}
+use Rattle.std.specs.Option.{is_some, option_map, option_map_or, unwrap_or}
 use Rattle.values.specs.Checks.{bad, first_fault, answer}
 use Rattle.values.specs.declared.Kind.{Kind}
 use Rattle.values.specs.declared.Kind.TheVariants.{Score, Fee}
@@ -13,8 +14,7 @@ use Rattle.graph.specs.Reach.{Within}
 use Rattle.process.specs.declared.parts.Step.{Step}
 use Rattle.process.specs.declared.parts.Arrow.{Arrow}
 use Rattle.process.specs.declared.cursor.Cursor.{Cursor}
-use Rattle.process.specs.declared.cursor.Expected.{Expected}
-use Rattle.process.specs.declared.cursor.Expected.TheVariants.{HeaderRecord, StepRecord, ArrowRecord, NoRecord}
+use Rattle.process.specs.declared.cursor.Progress.{Progress}
 use Rattle.process.specs.Bits.{pack, unpack, two_bytes, four_bytes}
 use Rattle.process.specs.Stored.{Named, Plan, header_widths, step_widths, arrow_widths, no_arrow, Fine}
 
@@ -72,10 +72,36 @@ abbrev pub before : Arrow → Arrow → Bool
 before a b = nat_lt a.from b.from || (a.from == b.from && nat_lt a.to b.to)
 
 -- which record comes next
+pub data Expected : Type 0 where
+  HeaderRecord : Expected
+  StepRecord : Expected
+  ArrowRecord : Expected
+  NoRecord : Expected
+
+-- where the reader stands: whether the header is read, how many steps there are by it, how many steps and arrows are
+-- still to come, and the last arrow that was read, or `no_arrow` before the first
+abbrev pub is_begun : Cursor → Bool
+is_begun c = is_some c.progress
+
+abbrev pub step_count : Cursor → ℕ
+step_count c = option_map_or (λ p. p.steps) c.progress 0
+
+abbrev pub steps_to_come : Cursor → ℕ
+steps_to_come c = option_map_or (λ p. p.steps_left) c.progress 0
+
+abbrev pub arrows_to_come : Cursor → ℕ
+arrows_to_come c = option_map_or (λ p. p.arrows_left) c.progress 0
+
+abbrev pub arrow_or_none : Option Arrow → Arrow
+arrow_or_none o = unwrap_or o no_arrow
+
+abbrev pub last_arrow : Cursor → Arrow
+last_arrow c = option_map_or (λ p. arrow_or_none p.last) c.progress no_arrow
+
 abbrev pub expected : Cursor → Expected
 expected c =
-    cond c.begun
-    (cond (nat_lt 0 c.steps_left) StepRecord (cond (nat_lt 0 c.arrows_left) ArrowRecord NoRecord))
+    cond (is_begun c)
+    (cond (nat_lt 0 (steps_to_come c)) StepRecord (cond (nat_lt 0 (arrows_to_come c)) ArrowRecord NoRecord))
     HeaderRecord
 
 -- a fault of the reader at the record's first byte
@@ -98,8 +124,8 @@ checks ArrowRecord xs c =
     wrong (nat_lt (length xs) 2) WrongLength c
     ∷ wrong (nat_lt 0 (arrow_at xs 2)) WrongForm c
     ∷ wrong
-    (nat_lt c.steps (read_arrow xs).from || (nat_lt c.steps (read_arrow xs).to
-    || ((read_arrow xs).to == 1 || not (before c.last (read_arrow xs)))))
+    (nat_lt (step_count c) (read_arrow xs).from || (nat_lt (step_count c) (read_arrow xs).to
+    || ((read_arrow xs).to == 1 || not (before (last_arrow c) (read_arrow xs)))))
     WrongValue c
     ∷ []
 checks NoRecord xs c = wrong (nat_lt 0 (length xs)) WrongLength c ∷ []
@@ -118,32 +144,22 @@ says StepRecord xs c = Some (step (read_step xs) (c.place + 2))
 says ArrowRecord xs c = Some (arrow (read_arrow xs))
 says NoRecord xs c = None
 
+-- with one step fewer to come, and with one arrow fewer
+abbrev pub step_done : Progress → Progress
+step_done p = record { steps = p.steps; steps_left = p.steps_left - 1; arrows_left = p.arrows_left; last = p.last }
+
+abbrev pub arrow_done : Arrow → Progress → Progress
+arrow_done a p = record { steps = p.steps; steps_left = p.steps_left; arrows_left = p.arrows_left - 1; last = Some a }
+
+-- after a header of n steps and m arrows
+abbrev pub header_done : ℕ → ℕ → Progress
+header_done n m = record { steps = n; steps_left = n; arrows_left = m; last = None }
+
 -- where the reader stands after it
 abbrev pub moved : Expected → List ℕ → Cursor → Cursor
-moved HeaderRecord xs c = record {
-  place = c.place + 4;
-  begun = true;
-  steps = header_at xs 1;
-  steps_left = header_at xs 1;
-  arrows_left = header_at xs 2;
-  last = no_arrow;
-}
-moved StepRecord xs c = record {
-  place = c.place + (2 + name_length xs);
-  begun = c.begun;
-  steps = c.steps;
-  steps_left = c.steps_left - 1;
-  arrows_left = c.arrows_left;
-  last = c.last;
-}
-moved ArrowRecord xs c = record {
-  place = c.place + 2;
-  begun = c.begun;
-  steps = c.steps;
-  steps_left = c.steps_left;
-  arrows_left = c.arrows_left - 1;
-  last = read_arrow xs;
-}
+moved HeaderRecord xs c = record { place = c.place + 4; progress = Some (header_done (header_at xs 1) (header_at xs 2)) }
+moved StepRecord xs c = record { place = c.place + (2 + name_length xs); progress = option_map step_done c.progress }
+moved ArrowRecord xs c = record { place = c.place + 2; progress = option_map (arrow_done (read_arrow xs)) c.progress }
 moved NoRecord xs c = c
 
 -- one record read: what it says, the bytes after it, where the reader stands then
@@ -164,7 +180,7 @@ next xs c = next_of (expected c) xs c
 
 -- where the reader begins
 abbrev pub start : Cursor
-start = record { place = 0; begun = false; steps = 0; steps_left = 0; arrows_left = 0; last = no_arrow }
+start = record { place = 0; progress = None }
 
 -- what was read so far, with one record more
 abbrev pub with_record : Plan → Record → Plan

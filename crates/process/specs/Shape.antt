@@ -3,13 +3,18 @@ use Rattle.std.specs.Prelude.{◌≡◌, ℕ, ◌<◌, ◌≤◌, Bool, true, fa
 use Rattle.graph.specs.Column.{marked}
 use Rattle.graph.specs.Reach.{Within}
 use Rattle.process.specs.declared.parts.Arrow.{Arrow}
-use Rattle.process.specs.declared.parts.End.TheVariants.{Tail, Head}
+use Rattle.process.specs.Stored.{Tail, Head}
 use Rattle.process.specs.Stored.{ends_at, Fine, no_arrow}
 use Rattle.process.specs.Reading.{before, FirstUnfit}
 
 -- each arrow comes before every later one
 abbrev pub Sorted : List Arrow → Type 0
 Sorted zs = (i j : ℕ) → (i < j) × (j < length zs) → before (slice_index_or zs i no_arrow) (slice_index_or zs j no_arrow) ≡ true
+
+-- both ends of each arrow are steps, of n
+abbrev pub Inside : ℕ → List Arrow → Type 0
+Inside n zs = (i : ℕ) → i < length zs
+    → Within n (slice_index_or zs i no_arrow).from × Within n (slice_index_or zs i no_arrow).to
 
 -- the arrow leads from step j to a step above `after`, one of n
 abbrev pub hits : ℕ → ℕ → ℕ → Arrow → Bool

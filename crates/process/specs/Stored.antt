@@ -4,8 +4,6 @@ use Rattle.values.specs.Numbers.{kind_number, flow_number}
 use Rattle.graph.specs.Reach.{Within, Start, Reached}
 use Rattle.process.specs.declared.parts.Step.{Step}
 use Rattle.process.specs.declared.parts.Arrow.{Arrow}
-use Rattle.process.specs.declared.parts.End.{End}
-use Rattle.process.specs.declared.parts.End.TheVariants.{Tail, Head}
 use Rattle.process.specs.Bits.{pack, unpack, two_bytes, four_bytes}
 
 -- a step and its name
@@ -98,7 +96,11 @@ Rising last (a ∷ zs) = Before last a × Rising a zs
 abbrev pub no_arrow : Arrow
 no_arrow = record { from = 0; to = 0 }
 
--- an end of an arrow
+-- an end of an arrow: where it leaves, or where it leads
+pub data End : Type 0 where
+  Tail : End
+  Head : End
+
 abbrev pub end_of : End → Arrow → ℕ
 end_of Tail a = a.from
 end_of Head a = a.to

@@ -1,7 +1,7 @@
 // A process that the reader accepted.
 ghost use Rattle.std.specs.Prelude.{◌≡◌, ℕ, ◌≤◌, vec_len};
 ghost use Rattle.graph.specs.Reach.{Within};
-ghost use Rattle.process.specs.declared.parts.End.TheVariants.{Tail, Head};
+ghost use Rattle.process.specs.Stored.{Tail, Head};
 ghost use Rattle.process.specs.Stored.{All, Placed, Rising, no_arrow, ends_at, Reachable};
 
 use crate::parts::{Arrow, Step};
@@ -9,6 +9,7 @@ use crate::parts::{Arrow, Step};
 pub mod read;
 
 /// A process whose stored form was accepted: what a sheet needs of it.
+// Its own two lists and no draft: each fact below speaks of them, and a draft is not yet a process.
 #[derive(Drop)]
 pub struct Process {
     steps: Vec<Step>,

@@ -1,43 +1,20 @@
 // Where the reader stands in a stored process.
-ghost use Rattle.std.specs.Prelude.{◌≡◌};
-ghost use Rattle.process.specs.Reading.{expected};
-
 use crate::parts::Arrow;
 
+/// What the header says, and what was read after it.
 #[derive(Clone, Copy, Drop)]
-pub(crate) struct Cursor {
-    pub(crate) place: usize,
-    /// The header is read.
-    pub(crate) begun: bool,
+pub(crate) struct Progress {
     /// How many steps there are.
     pub(crate) steps: u16,
     pub(crate) steps_left: u16,
     pub(crate) arrows_left: u16,
     /// The last arrow that was read.
-    pub(crate) last: Arrow,
+    pub(crate) last: Option<Arrow>,
 }
 
-/// Which record comes next.
 #[derive(Clone, Copy, Drop)]
-pub(crate) enum Expected {
-    HeaderRecord,
-    StepRecord,
-    ArrowRecord,
-    NoRecord,
-}
-
-impl Cursor {
-    pub(crate) fn expected(&self) -> Expected
-        ensures { result ≡ expected self.now }
-    {
-        if !self.begun {
-            Expected::HeaderRecord
-        } else if self.steps_left > 0 {
-            Expected::StepRecord
-        } else if self.arrows_left > 0 {
-            Expected::ArrowRecord
-        } else {
-            Expected::NoRecord
-        }
-    }
+pub(crate) struct Cursor {
+    pub(crate) place: usize,
+    /// None before the header.
+    pub(crate) progress: Option<Progress>,
 }

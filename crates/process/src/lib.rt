@@ -6,10 +6,9 @@ mod bits;
 mod cursor;
 pub mod parts;
 mod reader;
-mod records;
 mod shape;
 pub mod tables;
 
 pub use accepted::Process;
-pub use accepted::read::read;
+pub use accepted::read::{is_enough, read};
 pub use reader::Reader;

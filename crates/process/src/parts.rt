@@ -2,7 +2,7 @@
 use values::{Flow, Kind};
 
 /// A step of a process: a row of the sheet is started for it.
-#[derive(Clone, Copy, PartialEq, Debug, Drop)]
+#[derive(Clone, Copy, PartialEq, Eq, Debug, Drop)]
 pub struct Step {
     /// A rollback stops short of its rows.
     pub savepoint: bool,
@@ -19,17 +19,12 @@ pub struct Step {
 }
 
 /// An arrow from one step to another, or to itself; steps are numbered from 1.
-#[derive(Clone, Copy, PartialEq, Debug, Drop)]
+///
+/// Arrows are ordered by `from`, then by `to`.
+#[derive(Clone, Copy, PartialEq, Eq, PartialOrd, Ord, Debug, Drop)]
 pub struct Arrow {
     pub from: u16,
     pub to: u16,
-}
-
-/// An end of an arrow: where it leaves, or where it leads.
-#[derive(Clone, Copy, Drop)]
-pub(crate) enum End {
-    Tail,
-    Head,
 }
 
 /// One record of a stored process.

@@ -4,6 +4,7 @@ ghost use Rattle.std.specs.Prelude.{◌+◌, ◌^◌, ◌<◌, length};
 use crate::cursor::Cursor;
 
 mod methods;
+mod records;
 
 /// Reads a stored process record by record.
 #[derive(Drop)]

@@ -1,68 +1,26 @@
 // The last checks of a process: the arrows at each step, and that each step is reached.
-ghost use Rattle.std.specs.Prelude.{◌≡◌, ◌≤◌, length};
-ghost use Rattle.graph.specs.Column.{Kept};
+ghost use Rattle.std.specs.Prelude.{◌≡◌, ◌≤◌, true};
 ghost use Rattle.graph.specs.Held.{held};
-ghost use Rattle.graph.specs.Reach.{Within, Least};
-ghost use Rattle.process.specs.Stored.{end_of, ends_at, Leads};
-ghost use Rattle.process.specs.Shape.{Sorted, hits, fine_by, LowestUnfit, Shaped};
+ghost use Rattle.graph.specs.Scratch.{roomy_in, SameLoans};
+ghost use Rattle.process.specs.Stored.{ends_at, Tail, Head, Leads};
+ghost use Rattle.process.specs.Shape.{Sorted, Inside, fine_by, LowestUnfit, Shaped};
 
-use crate::parts::{Arrow, End};
+use crate::parts::Arrow;
 use graph::marks::Marks;
 use graph::reach::{Graph, reach};
+use graph::scratch::Scratch;
+
+/// How many arrows may lead into a step, and how many out of it.
+const MOST_AT_STEP: usize = 8;
 
 /// The steps of a process as points, with its arrows.
 #[derive(Clone, Copy)]
-struct ArrowGraph<'a> {
-    steps: usize,
-    arrows: &'a [Arrow],
+pub(crate) struct ArrowGraph<'a> {
+    pub(crate) steps: usize,
+    pub(crate) arrows: &'a [Arrow],
+    ghost few: { steps ≤ 64 },
     ghost sorted: { Sorted arrows.now },
-}
-
-fn end_of(end: End, a: &Arrow) -> u16
-    ensures { result ≡ end_of end a.now }
-{
-    match end {
-        End::Tail => a.from,
-        End::Head => a.to,
-    }
-}
-
-/// How many arrows have that end at the step.
-fn ends_at(end: End, arrows: &[Arrow], step: usize) -> usize
-    ensures { result ≡ ends_at end arrows.now step }
-{
-    let mut n = 0;
-    for a in arrows {
-        if end_of(end, a) as usize == step {
-            n += 1;
-        }
-    }
-    n
-}
-
-/// Whether the arrow leads from `from` to a step above `after`, one of `steps`.
-fn is_hit(a: &Arrow, steps: usize, from: usize, after: usize) -> bool
-    ensures { result ≡ hits steps from after a.now }
-{
-    let to = a.to as usize;
-    a.from as usize == from && after < to && to <= steps
-}
-
-/// The least step above `after` that an arrow leads to: arrows rise, so the first hit is the least.
-fn least_target(arrows: &[Arrow], steps: usize, from: usize, after: usize) -> Option<usize>
-    requires sorted { Sorted arrows.now }
-    requires from { Within steps from }
-    ensures { Least (Leads arrows.now steps from) after result }
-{
-    for a in arrows {
-        if a.from as usize > from {
-            return None;
-        }
-        if is_hit(a, steps, from, after) {
-            return Some(a.to as usize);
-        }
-    }
-    None
+    ghost inside: { Inside steps arrows.now },
 }
 
 impl Graph for ArrowGraph<'_> {
@@ -76,50 +34,58 @@ impl Graph for ArrowGraph<'_> {
         self.steps
     }
 
+    // Arrows rise: the first that comes after an arrow from `from` to `after` is the next from there, if one is.
     fn next_target(&self, from: usize, after: usize) -> Option<usize> {
-        if from < 1 || from > self.steps {
-            return None;
-        }
-        least_target(self.arrows, self.steps, from, after)
+        let next = self
+            .arrows
+            .partition_point(|a| (a.from as usize, a.to as usize) <= (from, after));
+        self.arrows
+            .get(next)
+            .filter(|a| a.from as usize == from)
+            .map(|a| a.to as usize)
     }
 }
 
-fn is_fine(arrows: &[Arrow], marks: &Marks, step: usize) -> bool
-    ensures { result ≡ fine_by (held marks.now) arrows.now step }
-{
-    ends_at(End::Tail, arrows, step) <= 8
-        && ends_at(End::Head, arrows, step) <= 8
-        && marks.is_set(step)
-}
-
-fn lowest_unfit(arrows: &[Arrow], steps: usize, marks: &Marks) -> Option<usize>
-    requires { steps ≤ 64 }
-    ensures { LowestUnfit (held marks.now) arrows.now steps result }
-{
-    for step in 1..steps + 1 {
-        if !is_fine(arrows, marks, step) {
-            return Some(step);
-        }
+impl ArrowGraph<'_> {
+    // Two functions for the two ends: with the end as a closure, both calls and the contract would be longer.
+    fn arrows_out(&self, step: usize) -> usize
+        ensures { result ≡ ends_at Tail self.now.arrows.now step }
+    {
+        self.arrows
+            .iter()
+            .filter(|a| a.from as usize == step)
+            .count()
     }
-    None
-}
 
-/// The lowest step that has more than 8 arrows out or in or is not reached from step 1.
-pub(crate) fn unfit_step(
-    arrows: &[Arrow],
-    steps: usize,
-    marks: &mut Marks,
-    line: &mut [u16],
-) -> Option<usize>
-    requires steps { steps ≤ 64 }
-    requires column { 257 ≤ length (held marks.old) }
-    requires line { 256 ≤ length line.old }
-    requires sorted { Sorted arrows.now }
-    ensures shaped { Shaped arrows.now steps result }
-    ensures kept { Kept (held marks.old) (held marks.new) }
-    ensures same { marks.new.column.ghost_name ≡ marks.old.column.ghost_name }
-{
-    let graph = ArrowGraph { steps, arrows };
-    let _ = reach(&graph, &[1], marks, line);
-    lowest_unfit(arrows, steps, marks)
+    fn arrows_in(&self, step: usize) -> usize
+        ensures { result ≡ ends_at Head self.now.arrows.now step }
+    {
+        self.arrows.iter().filter(|a| a.to as usize == step).count()
+    }
+
+    /// Whether the step is marked, and has few arrows in and out.
+    fn is_fine(&self, marks: &Marks, step: usize) -> bool
+        ensures { result ≡ fine_by (held marks.now) self.now.arrows.now step }
+    {
+        self.arrows_out(step) <= MOST_AT_STEP
+            && self.arrows_in(step) <= MOST_AT_STEP
+            && marks.is_set(step)
+    }
+
+    fn lowest_unfit(&self, marks: &Marks) -> Option<usize>
+        ensures { LowestUnfit (held marks.now) self.now.arrows.now self.now.steps result }
+    {
+        // Half open: the library says of `find` over `a..b` which number it is, and not over `a..=b`.
+        (1..self.steps + 1).find(|step| !self.is_fine(marks, *step))
+    }
+
+    /// The lowest step that has more than 8 arrows out or in or is not reached from step 1.
+    pub(crate) fn unfit_step(&self, scratch: &mut Scratch) -> Option<usize>
+        requires { roomy_in self.now.steps scratch.old ≡ true }
+        ensures shaped { Shaped self.now.arrows.now self.now.steps result }
+        ensures loans { SameLoans scratch.old scratch.new }
+    {
+        let _ = reach(self, &[1], scratch);
+        self.lowest_unfit(scratch.marks)
+    }
 }

@@ -1,15 +1,16 @@
 // Reading a stored process.
-ghost use Rattle.std.specs.Prelude.{◌≡◌, ◌≤◌, true, false, length, Err};
-ghost use Rattle.graph.specs.Column.{Kept};
+ghost use Rattle.std.specs.Prelude.{◌≡◌, true, false, length, Err};
 ghost use Rattle.graph.specs.Held.{held};
+ghost use Rattle.graph.specs.Scratch.{SameLoans};
 ghost use Rattle.process.specs.Accepted.{tables_of, Reading, enough, short_memory, Left};
 ghost use Rattle.process.specs.Drafts.{bare, SoundDraft};
 
 use super::Process;
 use crate::parts::{Arrow, Step};
-use crate::shape::unfit_step;
+use crate::shape::ArrowGraph;
 use crate::tables::{Draft, Tables, filled};
 use graph::marks::Marks;
+use graph::scratch::Scratch;
 use values::{Cause, Fault, Layer};
 
 /// How many bytes of the column reading wants.
@@ -43,33 +44,26 @@ impl Process {
     }
 }
 
-fn is_enough(column: &[u8], line: &[u16]) -> bool
+/// Whether a column and a line are as long as reading wants them.
+pub fn is_enough(column: &[u8], line: &[u16]) -> bool
     ensures { result ≡ enough (length column.now) (length line.now) }
 {
     COLUMN <= column.len() && LINE <= line.len()
 }
 
 /// Reads with memory enough: the records from left to right, and then the steps.
-fn read_with(
-    input: &[u8],
-    tables: Tables,
-    marks: &mut Marks,
-    line: &mut [u16],
-) -> Result<Process, Fault>
-    requires column { 257 ≤ length (held marks.old) }
-    requires line { 256 ≤ length line.old }
+fn read_with(input: &[u8], tables: Tables, scratch: &mut Scratch) -> Result<Process, Fault>
+    requires { enough (length (held scratch.old.marks.now)) (length scratch.old.line.now) ≡ true }
     ensures reading { Reading input.now result }
-    ensures kept { Kept (held marks.old) (held marks.new) }
-    ensures same { marks.new.column.ghost_name ≡ marks.old.column.ghost_name }
+    ensures loans { SameLoans scratch.old scratch.new }
 {
     let draft = filled(input, tables)?;
-    let steps = draft.steps.len();
-    match unfit_step(draft.arrows.as_slice(), steps, marks, line) {
-        Some(place) => Err(Fault {
-            cause: Cause::WrongStep,
-            layer: Layer::Reader,
-            place,
-        }),
+    let graph = ArrowGraph {
+        steps: draft.steps.len(),
+        arrows: draft.arrows.as_slice(),
+    };
+    match graph.unfit_step(scratch) {
+        Some(place) => Err(Layer::Reader.fault(Cause::WrongStep, place)),
         None => Ok(Process::new(draft)),
     }
 }
@@ -91,12 +85,12 @@ pub fn read(
         → line.new ≡ line.old }
 {
     if !is_enough(column, line) {
-        return Err(Fault {
-            cause: Cause::ShortMemory,
-            layer: Layer::Reader,
-            place: 0,
-        });
+        return Err(Layer::Reader.fault(Cause::ShortMemory, 0));
     }
     let mut marks = Marks::new(column);
-    read_with(input, tables, &mut marks, line)
+    let mut scratch = Scratch {
+        marks: &mut marks,
+        line,
+    };
+    read_with(input, tables, &mut scratch)
 }

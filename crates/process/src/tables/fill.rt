@@ -1,5 +1,5 @@
 // The records of a stored process, taken into the tables.
-ghost use Rattle.std.specs.Prelude.{◌≡◌, ◌+◌, [], Err, vec_len, MatchResult};
+ghost use Rattle.std.specs.Prelude.{◌≡◌, ◌+◌, Err, vec_len, MatchResult};
 ghost use Rattle.process.specs.Items.{record_of};
 ghost use Rattle.process.specs.Reading.{Scan};
 ghost use Rattle.process.specs.Drafts.{bare, bare_with, step_more, arrow_more, RoomFor, Filled};
@@ -10,16 +10,6 @@ use crate::reader::Reader;
 use values::Fault;
 
 impl Draft {
-    /// Nothing is read yet.
-    fn new(tables: Tables) -> Draft
-        ensures bare { bare result ≡ ([], []) }
-        ensures steps { vec_len result.steps ≡ 0 }
-        ensures arrows { vec_len result.arrows ≡ 0 }
-    {
-        let Tables { steps, arrows } = tables;
-        Draft { steps, arrows }
-    }
-
     /// Takes in one record more.
     fn take(&mut self, item: &Item)
         requires { RoomFor (record_of item.now) self.old }
@@ -41,7 +31,7 @@ impl Draft {
 pub(crate) fn filled(input: &[u8], tables: Tables) -> Result<Draft, Fault>
     ensures { MatchResult result (Filled input.now) (λ f. Scan input.now (Err f)) }
 {
-    let mut draft = Draft::new(tables);
+    let Tables { mut draft } = tables;
     let mut reader = Reader::new(input);
     while let Some(item) = reader.next()? {
         draft.take(&item);

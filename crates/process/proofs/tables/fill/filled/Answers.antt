@@ -1,5 +1,6 @@
 -- The loop over the records is the scan.
-use Rattle.std.proofs.Common.{◌≡◌, None, Ok, Err, Option, Result, sym, ap, ◌∙◌, subst, MatchResult}
+use Rattle.std.proofs.Common.{vec_items, ◌≡◌, None, Ok, Err, Option, Result, sym, ap, ◌∙◌, subst, MatchResult}
+use Rattle.std.proofs.lemmas.List.{nil_from_length}
 use Rattle.std.proofs.lemmas.Result.{err_from_is_err_and}
 use Rattle.values.specs.declared.Fault.{Fault}
 use Rattle.process.specs.declared.parts.Item.{Item}
@@ -13,8 +14,10 @@ use Rattle.process.proofs.tables.fill.filled.Goals as goal
 
 pub loop-draft-init : goal.loop-draft-init
 loop-draft-init c =
-    let made = c.new-draft.ensures in
-    partly_begun c.new-reader.ensures made.bare made.steps made.arrows
+    let t = c.args.tables in
+    let ss = nil_from_length (vec_items t.draft.steps) (sym t.draft.steps.ok.0 ∙ t.no_steps) in
+    let zs = nil_from_length (vec_items t.draft.arrows) (sym t.draft.arrows.ok.0 ∙ t.no_arrows) in
+    partly_begun c.new-reader.ensures (λ i. (ss i, zs i)) t.no_steps t.no_arrows
 
 pub returns-in_err-item : goal.returns-in_err-item
 returns-in_err-item c =
@@ -25,14 +28,6 @@ returns-in_err-item c =
     let P : Result Draft Fault → Type 0 =
     λ r. MatchResult r (Filled c.args.input.now) (λ f. Scan c.args.input.now (Err f)) in
     subst P (sym p.1) scan
-
-pub take-requires : goal.take-requires
-take-requires c =
-    let told_it = c.in_ok-item.ensures in
-    let e = handed_out _ (stand c.loop-draft.reader) (stand c.next.new.self) _ _
-    told_it.answer told_it.after c.in-Some.is in
-    let w = onward _ _ _ _ c.loop-draft.invariant.room _ _ _ e in
-    (w.steps_fit, w.arrows_fit)
 
 pub loop-draft-smaller : goal.loop-draft-smaller
 loop-draft-smaller c =
