@@ -1,12 +1,12 @@
--- Views that show the same are the same; a switch that is on. Assumes nothing.
-use Rattle.std.proofs.Common.{◌≡◌, Bool, true, Some, None, Option, Result, sym, refl, subst}
-use Rattle.values.specs.Checks.{after}
-use Rattle.values.specs.declared.Entry.{Entry}
+-- Views that show the same are the same, and calls on a view that is a part of another. Assumes nothing.
+use Rattle.std.proofs.Common.{◌≡◌, Some, None, Option, Result, sym, ap, ◌∙◌}
+use Rattle.values.specs.Checks.{answer, after}
 use Rattle.values.specs.declared.Kind.{Kind}
 use Rattle.values.specs.declared.Fault.{Fault}
 use Rattle.host.specs.Keys.{RowKey}
-use Rattle.host.specs.View.{View, Begins}
-use Rattle.host.specs.Views.{switched}
+use Rattle.host.specs.View.{View}
+use Rattle.host.specs.Calls.{fault_of, done, Makes}
+use Rattle.host.specs.declared.calls.Call.{Call}
 
 -- two views are equal if each of the four observations is
 pub view_ext : (v w : View) → v.shut ≡ w.shut → ((k : Kind) → v.room k ≡ w.room k)
@@ -14,12 +14,16 @@ pub view_ext : (v w : View) → v.shut ≡ w.shut → ((k : Kind) → v.room k �
 view_ext v w p q r s = λ i. record { shut = p i; room = λ k. q k i; state = λ n. r n i; entry = λ n. s n i }
 
 -- what a view is part of changes exactly if the view does
-pub after_in : (part : View → View) (f : Option Fault) (old new : View) (done : View) → part new ≡ done
-    → part (after f old new) ≡ after f (part old) done
-after_in part None old new done e = e
-after_in part (Some f) old new done e = refl
+after_in : (part : View → View) (f g : Option Fault) (v u : View) (w x : View) → f ≡ g → part v ≡ u → (g ≡ None → part w ≡ x)
+    → part (after f v w) ≡ after g u x
+after_in part None g v u w x p q h = h (sym p) ∙ ap (λ o. after o u x) p
+after_in part (Some f) g v u w x p q h = q ∙ ap (λ o. after o u x) p
 
--- a switch that is on begins as the host below does
-pub switch_begins : (on : Bool) (v w : View) (row : RowKey) (e : Entry) (r : Result (Unit {0}) Fault) → on ≡ true
-    → Begins v row e r w → Begins (switched on v) row e r (switched on w)
-switch_begins on v w row e r p b = subst (λ o. Begins (switched o v) row e r (switched o w)) (sym p) b
+-- a call on a part is the same call on the whole, if both decline it alike and do the same where they accept it
+pub part_makes : (part : View → View) (v u : View) (c : Call) → part v ≡ u → fault_of v c ≡ fault_of u c
+    → (fault_of u c ≡ None → part (done v c) ≡ done u c) → (r : Result (Unit {0}) Fault) (w : View)
+    → Makes v c r w → Makes u c r (part w)
+part_makes part v u c q p h r w m = record {
+  answers = m.answers ∙ ap (λ f. answer f tt) p;
+  shows = ap part m.shows ∙ after_in part (fault_of v c) (fault_of u c) v u (done v c) (done u c) p q h;
+}

@@ -2,3 +2,4 @@ pub mod Ext
 pub mod Joined
 pub mod Along
 pub mod Checks
+pub mod Tables

@@ -1,11 +1,19 @@
 -- Lists of calls on a host: what it shows after them, and how many it accepted. Assumes nothing.
-use Rattle.std.specs.Prelude.{ℕ, ◌+◌, cond, List, [], ◌∷◌, is_some, Option}
-use Rattle.values.specs.Checks.{first_fault, after}
+use Rattle.std.specs.Prelude.{ℕ, ◌+◌, cond, List, [], ◌∷◌, is_some, Option, Result, ◌≡◌}
+use Rattle.values.specs.Checks.{first_fault, answer, after}
 use Rattle.values.specs.declared.HostState.TheVariants.{Open, Standing, Void, Reversed}
 use Rattle.values.specs.declared.Fault.{Fault}
+use Rattle.host.specs.Keys.{RowKey}
 use Rattle.host.specs.View.{View, begin_checks, begun, move_checks, moved}
 use Rattle.host.specs.declared.calls.Call.{Call}
 use Rattle.host.specs.declared.calls.Call.TheVariants.{Begin, Commit, Drop, Undo}
+
+-- the row of a call
+abbrev pub row_of : Call → RowKey
+row_of (Begin row e) = row
+row_of (Commit row) = row
+row_of (Drop row) = row
+row_of (Undo row) = row
 
 -- the fault with which a call is declined
 abbrev pub fault_of : View → Call → Option Fault
@@ -24,6 +32,11 @@ done v (Undo row) = moved Reversed v row
 -- what is shown after a call
 abbrev pub after_call : View → Call → View
 after_call v c = after (fault_of v c) v (done v c)
+
+-- a call made: its answer, and what the host shows after
+pub record Makes (before : View) (call : Call) (r : Result (Unit {0}) Fault) (shown : View) : Type 0 where
+  pub answers : r ≡ answer (fault_of before call) tt
+  pub shows : shown ≡ after_call before call
 
 -- what is shown after all the calls of a list
 abbrev pub after_calls : View → List Call → View

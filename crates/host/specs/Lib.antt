@@ -3,3 +3,4 @@ pub mod View
 pub mod Views
 pub mod Calls
 pub mod Later
+pub mod Table

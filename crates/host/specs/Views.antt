@@ -1,8 +1,10 @@
 -- What a switch and a pair show, by what the hosts below them show. Assumes nothing.
-use Rattle.std.specs.Prelude.{◌≡◌, Bool, true, false, cond, ◌||◌}
+use Rattle.std.specs.Prelude.{◌≡◌, Bool, true, false, cond, not, ◌||◌}
 use Rattle.values.specs.Numbers.{same_kind}
 use Rattle.values.specs.declared.Kind.{Kind}
 use Rattle.host.specs.View.{View, is_unknown, shut_as}
+use Rattle.host.specs.declared.calls.Call.{Call}
+use Rattle.host.specs.declared.calls.Call.TheVariants.{Begin, Commit, Drop, Undo}
 use Rattle.host.specs.declared.switch.Switch.{Switch}
 use Rattle.host.specs.declared.switch.SwitchCommand.{SwitchCommand}
 use Rattle.host.specs.declared.switch.SwitchCommand.TheVariants.{On, Off, Below}
@@ -22,6 +24,13 @@ joined kind a b = record {
   state = λ row. cond (is_unknown (a.state row)) (b.state row) (a.state row);
   entry = λ row. cond (is_unknown (a.state row)) (b.entry row) (a.entry row);
 }
+
+-- whether a call on such a pair is for the first host: by the row, if either host knows it, and else by the kind
+abbrev pub for_first : Kind → View → View → Call → Bool
+for_first kind a b (Begin row e) = cond (is_unknown ((joined kind a b).state row)) (same_kind e.kind kind) (not (is_unknown (a.state row)))
+for_first kind a b (Commit row) = not (is_unknown (a.state row))
+for_first kind a b (Drop row) = not (is_unknown (a.state row))
+for_first kind a b (Undo row) = not (is_unknown (a.state row))
 
 abbrev pub switch_view : {X : Type 0} → (X → View) → Switch X → View
 switch_view view s = switched s.on (view s.inner)

@@ -1,7 +1,6 @@
 // Calls as values, and a list of them made on any host.
 ghost use Rattle.std.specs.Prelude.{◌≡◌};
-ghost use Rattle.values.specs.Checks.{answer};
-ghost use Rattle.host.specs.Calls.{fault_of, after_call, after_calls, accepted};
+ghost use Rattle.host.specs.Calls.{row_of, Makes, after_calls, accepted};
 ghost use Rattle.host.specs.Later.{Later};
 
 use crate::hosts::Host;
@@ -9,7 +8,7 @@ use crate::keys::RowKey;
 use values::{Entry, Fault};
 
 /// One call on a host.
-#[derive(Clone, Copy, Drop)]
+#[derive(Clone, Copy, PartialEq, Eq, Debug, Drop)]
 pub enum Call {
     Begin(RowKey, Entry),
     Commit(RowKey),
@@ -20,14 +19,22 @@ pub enum Call {
 impl Call {
     /// Makes the call.
     pub fn make<X: Host>(self, host: &mut X) -> Result<(), Fault>
-        ensures answers { result ≡ answer (fault_of (X.Host.view host.old) self) tt }
-        ensures shows { X.Host.view host.new ≡ after_call (X.Host.view host.old) self }
+        ensures { Makes (X.Host.view host.old) self result (X.Host.view host.new) }
     {
         match self {
             Call::Begin(row, entry) => host.begin(row, entry),
             Call::Commit(row) => host.commit(row),
             Call::Drop(row) => host.drop_row(row),
             Call::Undo(row) => host.undo(row),
+        }
+    }
+
+    // The row of the call.
+    pub(crate) fn row(self) -> RowKey
+        ensures { result ≡ row_of self }
+    {
+        match self {
+            Call::Begin(row, _) | Call::Commit(row) | Call::Drop(row) | Call::Undo(row) => row,
         }
     }
 }

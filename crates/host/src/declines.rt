@@ -11,9 +11,5 @@ use values::{Cause, Fault, Layer};
 pub fn declined(cause: Cause, row: RowKey) -> Result<(), Fault>
     ensures { result ≡ answer (bad true cause Host (place_of row)) tt }
 {
-    Err(Fault {
-        cause,
-        layer: Layer::Host,
-        place: row as usize,
-    })
+    Err(Layer::Host.fault(cause, usize::from(row)))
 }

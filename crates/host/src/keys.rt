@@ -19,5 +19,5 @@ pub fn row_key(number: u16) -> RowKey
 pub fn is_row(row: RowKey) -> bool
     ensures { result ≡ is_row row }
 {
-    1 <= row && row <= ROWS
+    (1..=ROWS).contains(&row)
 }

@@ -7,6 +7,7 @@ mod hosts;
 mod keys;
 mod pair;
 mod switch;
+mod table;
 
 pub use calls::{Call, make_all};
 pub use declines::declined;
@@ -14,3 +15,4 @@ pub use hosts::{Controls, Host, NoCommand};
 pub use keys::{ROWS, RowKey, is_row, row_key};
 pub use pair::{Pair, PairCommand};
 pub use switch::{Switch, SwitchCommand};
+pub use table::Table;

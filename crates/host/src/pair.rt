@@ -1,10 +1,11 @@
 // Two hosts as one: rows of one kind go to the first, all others to the second.
 ghost use Rattle.std.specs.Prelude.{◌≡◌};
 ghost use Rattle.values.specs.Numbers.{same_kind};
-ghost use Rattle.host.specs.View.{Between};
-ghost use Rattle.host.specs.Views.{joined, pair_view, pair_shuts, PairLeft};
+ghost use Rattle.host.specs.Calls.{Makes};
+ghost use Rattle.host.specs.Views.{joined, pair_view, for_first, pair_shuts, PairLeft};
 ghost use Rattle.std.proofs.Common.{rules};
 
+use crate::calls::Call;
 use crate::declines::declined;
 use crate::hosts::{Controls, Host};
 use crate::keys::RowKey;
@@ -19,7 +20,7 @@ pub struct Pair<X, Y> {
 }
 
 /// Commands one of a pair's two hosts.
-#[derive(Drop)]
+#[derive(Clone, Copy, PartialEq, Eq, Debug, Drop)]
 pub enum PairCommand<C, D> {
     First(C),
     Second(D),
@@ -31,50 +32,19 @@ impl<X: Host, Y: Host> Host for Pair<X, Y> {
     ghost sound = { Prim.search rules };
 
     fn begin(&mut self, row: RowKey, entry: Entry) -> Result<(), Fault> {
-        if self.is_shut() {
-            return declined(Cause::ShutHost, row);
-        }
-        if !self.state(row).is(HostState::Unknown) {
-            return declined(Cause::OtherState, row);
-        }
-        if self.takes_first(entry.kind) {
-            self.first.begin(row, entry)
-        } else {
-            self.second.begin(row, entry)
-        }
+        self.pass(Call::Begin(row, entry))
     }
 
     fn commit(&mut self, row: RowKey) -> Result<(), Fault> {
-        if self.is_shut() {
-            return declined(Cause::ShutHost, row);
-        }
-        if self.first.state(row).is(HostState::Unknown) {
-            self.second.commit(row)
-        } else {
-            self.first.commit(row)
-        }
+        self.pass(Call::Commit(row))
     }
 
     fn drop_row(&mut self, row: RowKey) -> Result<(), Fault> {
-        if self.is_shut() {
-            return declined(Cause::ShutHost, row);
-        }
-        if self.first.state(row).is(HostState::Unknown) {
-            self.second.drop_row(row)
-        } else {
-            self.first.drop_row(row)
-        }
+        self.pass(Call::Drop(row))
     }
 
     fn undo(&mut self, row: RowKey) -> Result<(), Fault> {
-        if self.is_shut() {
-            return declined(Cause::ShutHost, row);
-        }
-        if self.first.state(row).is(HostState::Unknown) {
-            self.second.undo(row)
-        } else {
-            self.first.undo(row)
-        }
+        self.pass(Call::Undo(row))
     }
 
     fn is_shut(&self) -> bool {
@@ -91,7 +61,7 @@ impl<X: Host, Y: Host> Host for Pair<X, Y> {
 
     fn state(&self, row: RowKey) -> HostState {
         let state = self.first.state(row);
-        if state.is(HostState::Unknown) {
+        if state == HostState::Unknown {
             self.second.state(row)
         } else {
             state
@@ -99,7 +69,7 @@ impl<X: Host, Y: Host> Host for Pair<X, Y> {
     }
 
     fn entry(&self, row: RowKey) -> Option<Entry> {
-        if self.first.state(row).is(HostState::Unknown) {
+        if self.first.state(row) == HostState::Unknown {
             self.second.entry(row)
         } else {
             self.first.entry(row)
@@ -112,15 +82,9 @@ impl<X: Controls, Y: Controls> Controls for Pair<X, Y> {
 
     ghost shuts = { pair_shuts X.Host.view X.Controls.shuts Y.Host.view Y.Controls.shuts };
 
-    fn control(&mut self, command: PairCommand<X::Command, Y::Command>) -> bool
-        ensures between { Between (pair_view X.Host.view Y.Host.view self.old)
-            (pair_view X.Host.view Y.Host.view self.new) }
-        ensures shut { (pair_view X.Host.view Y.Host.view self.new).shut
-            ≡ pair_shuts X.Host.view X.Controls.shuts Y.Host.view Y.Controls.shuts self.old command }
-        ensures answers { result
-            ≡ pair_shuts X.Host.view X.Controls.shuts Y.Host.view Y.Controls.shuts self.old command }
-        ensures left { PairLeft command self.old self.new }
-    {
+    ghost leaves = { λ p command q. PairLeft command p q };
+
+    fn control(&mut self, command: PairCommand<X::Command, Y::Command>) -> bool {
         match command {
             PairCommand::First(c) => {
                 let _ = self.first.control(c);
@@ -152,7 +116,33 @@ impl<X: Host, Y: Host> Pair<X, Y> {
     fn takes_first(&self, kind: Kind) -> bool
         ensures { result ≡ same_kind kind self.now.kind }
     {
-        kind.is(self.kind)
+        kind == self.kind
+    }
+
+    // Whether a call is for the first host: by the row, if either host knows it, and else by the kind.
+    fn is_for_first(&self, call: Call) -> bool
+        ensures { result ≡ for_first self.now.kind (X.Host.view self.now.first) (Y.Host.view self.now.second) call }
+    {
+        match call {
+            Call::Begin(row, entry) if self.state(row) == HostState::Unknown => {
+                self.takes_first(entry.kind)
+            }
+            _ => self.first.state(call.row()) != HostState::Unknown,
+        }
+    }
+
+    // Makes a call at the host that it is for, unless the pair is shut.
+    fn pass(&mut self, call: Call) -> Result<(), Fault>
+        ensures { Makes (pair_view X.Host.view Y.Host.view self.old) call result (pair_view X.Host.view Y.Host.view self.new) }
+    {
+        if self.is_shut() {
+            return declined(Cause::ShutHost, call.row());
+        }
+        if self.is_for_first(call) {
+            call.make(&mut self.first)
+        } else {
+            call.make(&mut self.second)
+        }
     }
 
     /// The host that takes the named kind.

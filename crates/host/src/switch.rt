@@ -1,9 +1,10 @@
 // A host with a switch: while it is off, the host is shut.
 ghost use Rattle.std.specs.Prelude.{◌≡◌, true};
-ghost use Rattle.host.specs.View.{Between};
+ghost use Rattle.host.specs.Calls.{Makes};
 ghost use Rattle.host.specs.Views.{switch_view, switch_shuts, SwitchLeft};
 ghost use Rattle.std.proofs.Common.{rules};
 
+use crate::calls::Call;
 use crate::declines::declined;
 use crate::hosts::{Controls, Host};
 use crate::keys::RowKey;
@@ -17,7 +18,7 @@ pub struct Switch<X> {
 }
 
 /// Turns a switch, or commands the host below it.
-#[derive(Drop)]
+#[derive(Clone, Copy, PartialEq, Eq, Debug, Drop)]
 pub enum SwitchCommand<C> {
     On,
     Off,
@@ -30,31 +31,19 @@ impl<X: Host> Host for Switch<X> {
     ghost sound = { Prim.search rules };
 
     fn begin(&mut self, row: RowKey, entry: Entry) -> Result<(), Fault> {
-        if !self.on {
-            return declined(Cause::ShutHost, row);
-        }
-        self.inner.begin(row, entry)
+        self.pass(Call::Begin(row, entry))
     }
 
     fn commit(&mut self, row: RowKey) -> Result<(), Fault> {
-        if !self.on {
-            return declined(Cause::ShutHost, row);
-        }
-        self.inner.commit(row)
+        self.pass(Call::Commit(row))
     }
 
     fn drop_row(&mut self, row: RowKey) -> Result<(), Fault> {
-        if !self.on {
-            return declined(Cause::ShutHost, row);
-        }
-        self.inner.drop_row(row)
+        self.pass(Call::Drop(row))
     }
 
     fn undo(&mut self, row: RowKey) -> Result<(), Fault> {
-        if !self.on {
-            return declined(Cause::ShutHost, row);
-        }
-        self.inner.undo(row)
+        self.pass(Call::Undo(row))
     }
 
     fn is_shut(&self) -> bool {
@@ -79,13 +68,9 @@ impl<X: Controls> Controls for Switch<X> {
 
     ghost shuts = { switch_shuts X.Host.view X.Controls.shuts };
 
-    fn control(&mut self, command: SwitchCommand<X::Command>) -> bool
-        ensures between { Between (switch_view X.Host.view self.old) (switch_view X.Host.view self.new) }
-        ensures shut { (switch_view X.Host.view self.new).shut
-            ≡ switch_shuts X.Host.view X.Controls.shuts self.old command }
-        ensures answers { result ≡ switch_shuts X.Host.view X.Controls.shuts self.old command }
-        ensures left { SwitchLeft command self.old self.new }
-    {
+    ghost leaves = { λ s command t. SwitchLeft command s t };
+
+    fn control(&mut self, command: SwitchCommand<X::Command>) -> bool {
         match command {
             SwitchCommand::On => self.on = true,
             SwitchCommand::Off => self.on = false,
@@ -105,6 +90,17 @@ impl<X: Host> Switch<X> {
         ensures inner { result.inner ≡ inner }
     {
         Switch { inner, on: true }
+    }
+
+    // Makes a call at the host below, unless the switch is off.
+    fn pass(&mut self, call: Call) -> Result<(), Fault>
+        ensures { Makes (switch_view X.Host.view self.old) call result (switch_view X.Host.view self.new) }
+    {
+        if self.on {
+            call.make(&mut self.inner)
+        } else {
+            declined(Cause::ShutHost, call.row())
+        }
     }
 
     /// The host below.

@@ -7,7 +7,7 @@ use scorebook::{Record, ScoreBook};
 use std::alloc::{AllocError, Global};
 use std::process::Abort;
 use std::test::Fail;
-use values::{Entry, HostState, Kind};
+use values::{Cause, Entry, HostState, Kind};
 
 type Hosts = Pair<Switch<Ledger>, Switch<ScoreBook>>;
 
@@ -39,27 +39,23 @@ fn hosts(heap: Global, lines: usize, records: usize) -> Result<Hosts, AllocError
     Ok(Pair::new(Kind::Fee, Switch::new(fees), Switch::new(scores)))
 }
 
-// The number of the cause with which a call is declined, or 0.
-fn cause_of<X: Host>(host: &mut X, call: Call) -> u8 {
-    match call.make(host) {
-        Ok(()) => 0,
-        Err(fault) => fault.cause.number(),
-    }
+// The cause with which a call is declined.
+fn cause_of<X: Host>(host: &mut X, call: Call) -> Option<Cause> {
+    call.make(host).err().map(|fault| fault.cause)
 }
 
-// Makes each call and compares the number of its cause.
+// Makes each call and compares the number of its cause, which is 0 if the call is accepted: faults are printed by number.
 fn expect<X: Host>(rt: &impl Abort, host: &mut X, cases: &[(Call, u8)]) {
     for (call, cause) in cases {
-        assert_eq!(rt; cause_of(host, *call), *cause);
+        assert_eq!(rt; cause_of(host, *call).map_or(0, u8::from), *cause);
     }
 }
 
-// Begins rows from 1 on until one is declined: how many were begun, and the cause.
+// Begins rows from 1 on until one is declined: how many were begun, and the number of the cause.
 fn fill<X: Host>(host: &mut X, entry: Entry) -> (u16, u8) {
     for row in 1..1000u16 {
-        let cause = cause_of(host, Call::Begin(row_key(row), entry));
-        if cause != 0 {
-            return (row - 1, cause);
+        if let Some(cause) = cause_of(host, Call::Begin(row_key(row), entry)) {
+            return (row - 1, u8::from(cause));
         }
     }
     (1000, 0)

@@ -43,10 +43,7 @@ impl Mark {
     pub(crate) fn begins(self) -> usize
         ensures { result ≡ (if is_hold self then 1 else 0) }
     {
-        match self {
-            Mark::Hold => 1,
-            Mark::Post | Mark::Contra | Mark::Release => 0,
-        }
+        usize::from(self == Mark::Hold)
     }
 }
 
@@ -82,22 +79,14 @@ fn number_of(entry: Entry) -> i64
     ensures low { neg_ℤ (pos (2 ^ 31)) ≤ℤ result }
     ensures high { result ≤ℤ pos (2 ^ 31) }
 {
-    match entry.number {
-        Some(n) => i64::from(n),
-        None => 0,
-    }
+    entry.number.map_or(0, i64::from)
 }
 
 // The last line of a row, looked for from the end.
 pub(crate) fn last(lines: &[Line], row: RowKey) -> Option<Line>
     ensures { result ≡ last_of lines.now row }
 {
-    for i in (0..lines.len()).rev() {
-        if lines[i].row == row {
-            return Some(lines[i]);
-        }
-    }
-    None
+    lines.iter().rev().find(|line| line.row == row).copied()
 }
 
 // Posts less contras.
@@ -105,6 +94,7 @@ pub(crate) fn total(lines: &[Line]) -> i64
     requires { length lines.now ≤ lines_most }
     ensures { result ≡ posted lines.now }
 {
+    // A chain that sums signed numbers gets no proof that the sum fits.
     let mut sum = 0;
     for line in lines {
         sum += line.worth();

@@ -1,26 +1,21 @@
 -- What a book shows after a turn, and after one record more. Assumes nothing.
-use Rattle.std.specs.Prelude.{◌≡◌, ℕ, ◌-◌, ◌<◌, true, false, cond, not, ◌&&◌, List, [], ◌∷◌, ◌++◌, is_some, None, Ok, ◌==◌, refl}
-use Rattle.std.proofs.Common.{sym, ap, ap₂, ◌∙◌, ⊎_elim, arith}
+use Rattle.std.specs.Prelude.{◌≡◌, ℕ, ◌-◌, true, false, not, List, [], ◌∷◌, ◌++◌, is_some, None, Ok, refl}
+use Rattle.std.proofs.Common.{ap, ap₂, ◌∙◌, ⊎_elim, arith}
 use Rattle.std.proofs.lemmas.Bool.Decides.{nat_tests}
-use Rattle.std.proofs.lemmas.Bool.{cases_Bool, and_from}
-use Rattle.values.specs.Checks.{first_fault, answer, after}
+use Rattle.std.proofs.lemmas.Bool.{cases_Bool}
+use Rattle.values.specs.Checks.{first_fault}
 use Rattle.values.specs.Numbers.{same_kind, same_host_state}
 use Rattle.values.specs.declared.Entry.{Entry}
-use Rattle.values.specs.declared.Kind.{Kind}
 use Rattle.values.specs.declared.Kind.TheVariants.{Score}
 use Rattle.values.specs.declared.HostState.{HostState}
-use Rattle.values.specs.declared.HostState.TheVariants.{Unknown}
 use Rattle.host.specs.Keys.{RowKey, is_row}
 use Rattle.host.specs.View.{Begins, Moves, is_unknown, begin_checks, begun, move_checks, moved}
+use Rattle.host.proofs.Checks.{accepted_moves, accepted_begins}
 use Rattle.host.proofs.Ext.{view_ext}
 use Rattle.scorebook.specs.declared.records.Record.{Record}
 use Rattle.scorebook.specs.Records.{find_in, turned, opened, state_in, well, booked}
 use Rattle.scorebook.specs.Sounds.{find_outside, find_known}
 use Rattle.scorebook.proofs.Turned.{state_turned, entry_turned, find_push}
-
--- states with one number are one state
-pub unknown_is : (s : HostState) → is_unknown s ≡ true → s ≡ Unknown
-unknown_is s h = grind arith
 
 -- one record turned is one row moved
 pub booked_turned : (free : ℕ) (xs : List Record) (row : RowKey) (to : HostState) → is_some (find_in xs row) ≡ true
@@ -37,27 +32,14 @@ known_row from xs row k w h =
     let some : is_some (find_in xs row) ≡ true = find_known xs row w ∙ ap not known in
     (some, ⊎_elim (λ e. e) (λ e. let z = find_outside xs row w e in grind arith) (cases_Bool (is_row row)))
 
--- the check of a row in the state that a move wants passes
-pub turn_passes : (from : HostState) (free : ℕ) (xs : List Record) (row : RowKey) → is_unknown from ≡ false → well xs ≡ true
-    → same_host_state (state_in (find_in xs row)) from ≡ true → first_fault (move_checks from (booked free xs) row) ≡ None
-turn_passes from free xs row k w h =
-    let may : (is_row row && same_host_state (state_in (find_in xs row)) from) ≡ true =
-    and_from _ _ (known_row from xs row k w h).1 h in
-    grind (arith, may)
-
--- and that row is moved
+-- and that row is moved, if the checks pass
 pub turn_moves : (from to : HostState) (free left : ℕ) (xs ys : List Record) (row : RowKey) → is_unknown from ≡ false
-    → well xs ≡ true → same_host_state (state_in (find_in xs row)) from ≡ true → left ≡ free → ys ≡ turned xs row to
+    → well xs ≡ true → first_fault (move_checks from (booked free xs) row) ≡ None → left ≡ free → ys ≡ turned xs row to
     → Moves from to (booked free xs) row (Ok tt) (booked left ys)
-turn_moves from to free left xs ys row k w h l t =
-    let none = turn_passes from free xs row k w h in
-    record {
-      answers = ap (λ f. answer f tt) (sym none);
-      shows =
-          ap₂ booked l t
-          ∙ booked_turned free xs row to (known_row from xs row k w h).0
-          ∙ ap (λ f. after f (booked free xs) (moved to (booked free xs) row)) (sym none);
-    }
+turn_moves from to free left xs ys row k w none l t =
+    let here : same_host_state (state_in (find_in xs row)) from ≡ true = grind (arith, nat_tests) in
+    accepted_moves from to (booked free xs) (booked left ys) row (Ok tt) none refl
+    (ap₂ booked l t ∙ booked_turned free xs row to (known_row from xs row k w here).0)
 
 -- one record more is one row begun
 pub booked_push : (free less : ℕ) (xs : List Record) (row : RowKey) (e : Entry) → find_in xs row ≡ None
@@ -68,31 +50,22 @@ booked_push free less xs row e h z l =
     (λ n. let p = find_push xs (opened row e) n in grind (arith, nat_tests))
     (λ n. let p = find_push xs (opened row e) n in grind (arith, nat_tests))
 
--- the checks of a new row for which there is room pass
-pub push_passes : (free : ℕ) (xs : List Record) (row : RowKey) (e : Entry) → is_row row ≡ true → find_in xs row ≡ None
-    → ((booked free xs).room e.kind == 0) ≡ false → first_fault (begin_checks (booked free xs) row e.kind) ≡ None
-push_passes free xs row e i h r = grind (arith, nat_tests)
-
--- and that row is begun
-pub push_begins : (free less : ℕ) (xs ys : List Record) (row : RowKey) (e : Entry) → is_row row ≡ true → find_in xs row ≡ None
-    → ((booked free xs).room e.kind == 0) ≡ false → less ≡ free - 1 → ys ≡ xs ++ opened row e ∷ []
-    → Begins (booked free xs) row e (Ok tt) (booked less ys)
-push_begins free less xs ys row e i h r l t =
-    let z : same_kind e.kind Score ≡ true = grind (arith, nat_tests) in
-    let none = push_passes free xs row e i h r in
-    record {
-      answers = ap (λ f. answer f tt) (sym none);
-      shows =
-          ap (booked less) t
-          ∙ booked_push free less xs row e h z l
-          ∙ ap (λ f. after f (booked free xs) (begun (booked free xs) row e)) (sym none);
-    }
-
 -- an unknown row has no record
 pub none_unknown : (xs : List Record) (row : RowKey) → well xs ≡ true → is_unknown (state_in (find_in xs row)) ≡ true
     → find_in xs row ≡ None
 none_unknown xs row w h = let known = find_known xs row w in grind arith
 
--- there is a record left where the room is not 0
-pub space : (k : Kind) (free : ℕ) → (cond (same_kind k Score) free 0 == 0) ≡ false → 0 < free
-space k free h = grind (arith, nat_tests)
+pub begun_unused : (free : ℕ) (xs : List Record) (row : RowKey) (e : Entry) → well xs ≡ true
+    → first_fault (begin_checks (booked free xs) row e.kind) ≡ None → find_in xs row ≡ None
+begun_unused free xs row e w none =
+    let unknown : is_unknown (state_in (find_in xs row)) ≡ true = grind (arith, nat_tests) in
+    none_unknown xs row w unknown
+
+-- and that row is begun, if the checks pass
+pub push_begins : (free less : ℕ) (xs ys : List Record) (row : RowKey) (e : Entry) → well xs ≡ true
+    → first_fault (begin_checks (booked free xs) row e.kind) ≡ None → less ≡ free - 1 → ys ≡ xs ++ opened row e ∷ []
+    → Begins (booked free xs) row e (Ok tt) (booked less ys)
+push_begins free less xs ys row e w none l t =
+    let z : same_kind e.kind Score ≡ true = grind (arith, nat_tests) in
+    accepted_begins (booked free xs) (booked less ys) row e (Ok tt) none refl
+    (ap (booked less) t ∙ booked_push free less xs row e (begun_unused free xs row e w none) z l)

@@ -1,8 +1,7 @@
 -- One record turned, and one record more, among a book's records. Assumes nothing.
-use Rattle.std.specs.Prelude.{◌≡◌, ℕ, ◌<◌, ◌≤◌, true, false, cond, List, [], ◌∷◌, ◌++◌, length, get_or, take, set, is_some, Some, None, slice_index_or, slice_set, refl}
-use Rattle.std.proofs.Common.{sym, ◌∙◌, arith}
-use Rattle.std.proofs.Math.Seq.{take-set-lt}
-use Rattle.std.proofs.lemmas.List.{get_or-take, length-take-le}
+use Rattle.std.specs.Prelude.{◌≡◌, ℕ, ◌<◌, ◌≤◌, true, false, cond, List, [], ◌∷◌, ◌++◌, length, get_or, set, is_some, Some, None, slice_index_or, slice_set, refl}
+use Rattle.std.specs.List.{position_or_len}
+use Rattle.std.proofs.Common.{ap, ◌∙◌, arith}
 use Rattle.std.proofs.lemmas.Bool.Decides.{nat_tests}
 use Rattle.values.specs.declared.HostState.{HostState}
 use Rattle.host.specs.Keys.{RowKey, same_row, is_row}
@@ -46,24 +45,36 @@ well_push [] r w i k e = grind (arith, nat_tests)
 well_push (x ∷ xs) r w i k e =
     let ih = well_push xs r in let p = find_push xs r x.row in grind (arith, nat_tests)
 
+-- where a record stands, or that there is none
+pub placed : (xs : List Record) (row : RowKey) (i : ℕ) → Some i ≡ place_in xs row
+    → (i ≡ position_or_len (λ r. same_row r.row row) xs) × (i < length xs)
+placed xs row i h = (grind (arith, nat_tests), grind (arith, nat_tests))
+
+pub unplaced : (xs : List Record) (row : RowKey) → None ≡ place_in xs row → length xs ≤ position_or_len (λ r. same_row r.row row) xs
+unplaced xs row h = grind (arith, nat_tests)
+
 -- the record at its place is set
-pub turned_set : (xs : List Record) (row : RowKey) (to : HostState) (d : Record) → place_in xs row < length xs
-    → slice_set xs (place_in xs row) (with_state to (slice_index_or xs (place_in xs row) d)) ≡ turned xs row to
+turned_set : (xs : List Record) (row : RowKey) (to : HostState) (d : Record) → position_or_len (λ r. same_row r.row row) xs < length xs
+    → slice_set xs (position_or_len (λ r. same_row r.row row) xs)
+    (with_state to (slice_index_or xs (position_or_len (λ r. same_row r.row row) xs) d)) ≡ turned xs row to
 turned_set [] row to d h = refl
 turned_set (x ∷ xs) row to d h = let ih = turned_set xs row to d in grind (arith, nat_tests)
 
-pub turned_absent : (xs : List Record) (row : RowKey) (to : HostState) → length xs ≤ place_in xs row → turned xs row to ≡ xs
-turned_absent [] row to h = refl
-turned_absent (x ∷ xs) row to h = let ih = turned_absent xs row to in grind (arith, nat_tests)
+turned_none : (xs : List Record) (row : RowKey) (to : HostState) → length xs ≤ position_or_len (λ r. same_row r.row row) xs
+    → turned xs row to ≡ xs
+turned_none [] row to h = refl
+turned_none (x ∷ xs) row to h = let ih = turned_none xs row to in grind (arith, nat_tests)
 
--- the same, in the used part of a table
-pub turned_in : (items : List Record) (used : ℕ) (row : RowKey) (i : ℕ) (to : HostState) (r : Record)
-    → i ≡ place_in (take used items) row → i < used → used ≤ length items → r ≡ slice_index_or items i r
-    → take used (slice_set items i (with_state to r)) ≡ turned (take used items) row to
-turned_in items used row i to r e h l q =
-    let xs = take used items in
-    let same : r ≡ get_or xs i r = q ∙ sym (get_or-take used items i r h) in
-    let long : place_in xs row < length xs = omega (arith, e, length-take-le used items l) in
-    let at : set xs (place_in xs row) (with_state to (slice_index_or xs (place_in xs row) r)) ≡ turned xs row to = turned_set xs row to r long in
-    let goes : set xs i (with_state to r) ≡ set xs (place_in xs row) (with_state to (slice_index_or xs (place_in xs row) r)) = cc in
-    take-set-lt used items i (with_state to r) h ∙ goes ∙ at
+pub turned_absent : (xs : List Record) (row : RowKey) (to : HostState) → None ≡ place_in xs row → turned xs row to ≡ xs
+turned_absent xs row to h = turned_none xs row to (unplaced xs row h)
+
+-- the same, where a search says the place
+pub turned_at : (xs ys : List Record) (row : RowKey) (i : ℕ) (to : HostState) (d : Record)
+    → Some i ≡ place_in xs row → ys ≡ xs → slice_set xs i (with_state to (slice_index_or ys i d)) ≡ turned xs row to
+turned_at xs ys row i to d e q =
+    let at = placed xs row i e in
+    let place = at.0 in
+    let here : position_or_len (λ x. same_row x.row row) xs < length xs = omega (arith, place, at.1) in
+    ap (λ zs. set xs i (with_state to (get_or zs i d))) q
+    ∙ ap (λ k. set xs k (with_state to (get_or xs k d))) place
+    ∙ turned_set xs row to d here

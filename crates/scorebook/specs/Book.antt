@@ -1,9 +1,10 @@
 -- A score book: its records in use, the rest of its table, what it shows, and what its calls do. Assumes nothing.
-use Rattle.std.specs.Prelude.{◌≡◌, ℕ, ◌-◌, min, List, [], ◌∷◌, ◌++◌, take, drop, vec_items, vec_len}
+use Rattle.std.specs.Prelude.{◌≡◌, ℕ, ◌-◌, min, List, [], ◌∷◌, ◌++◌, length, drop}
 use Rattle.values.specs.Checks.{first_fault, after}
 use Rattle.values.specs.declared.Entry.{Entry}
 use Rattle.values.specs.declared.HostState.{HostState}
 use Rattle.host.specs.Keys.{RowKey, rows_most}
+use Rattle.host.specs.Table.{capacity_of}
 use Rattle.host.specs.View.{View, begin_checks, move_checks}
 use Rattle.scorebook.specs.declared.records.Record.{Record}
 use Rattle.scorebook.specs.declared.book.ScoreBook.{ScoreBook}
@@ -11,15 +12,15 @@ use Rattle.scorebook.specs.Records.{booked, turned, opened}
 
 -- the records in use, in the order of their beginning
 abbrev pub records_of : ScoreBook → List Record
-records_of b = take b.used (vec_items b.table)
+records_of b = b.table.used
 
 -- the rest of the table
 abbrev pub rest_of : ScoreBook → List Record
-rest_of b = drop b.used (vec_items b.table)
+rest_of b = b.table.rest
 
 -- how many more records may be used: only the first 256 of the table are
 abbrev pub free_of : ScoreBook → ℕ
-free_of b = min rows_most (vec_len b.table) - b.used
+free_of b = min rows_most (capacity_of b.table) - length b.table.used
 
 abbrev pub book_view : ScoreBook → View
 book_view b = booked (free_of b) (records_of b)

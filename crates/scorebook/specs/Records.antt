@@ -1,5 +1,6 @@
 -- A score book's records, in the order of their beginning. Assumes nothing.
-use Rattle.std.specs.Prelude.{ℕ, suc, Bool, true, false, cond, not, ◌&&◌, List, [], ◌∷◌, is_some, Some, None, Option}
+use Rattle.std.specs.Prelude.{ℕ, Bool, true, false, cond, not, ◌&&◌, List, [], ◌∷◌, is_some, Some, None, Option}
+use Rattle.std.specs.List.{find, position}
 use Rattle.values.specs.Numbers.{same_kind}
 use Rattle.values.specs.declared.Entry.{Entry}
 use Rattle.values.specs.declared.Kind.TheVariants.{Score}
@@ -11,13 +12,11 @@ use Rattle.scorebook.specs.declared.records.Record.{Record}
 
 -- the record of a row
 abbrev pub find_in : List Record → RowKey → Option Record
-find_in [] row = None
-find_in (r ∷ rs) row = cond (same_row r.row row) (Some r) (find_in rs row)
+find_in rs row = find (λ r. same_row r.row row) rs
 
--- where it stands, or how many records there are
-abbrev pub place_in : List Record → RowKey → ℕ
-place_in [] row = 0
-place_in (r ∷ rs) row = cond (same_row r.row row) 0 (suc (place_in rs row))
+-- where it stands
+abbrev pub place_in : List Record → RowKey → Option ℕ
+place_in rs row = position (λ r. same_row r.row row) rs
 
 abbrev pub with_state : HostState → Record → Record
 with_state to r = record { row = r.row; entry = r.entry; state = to }

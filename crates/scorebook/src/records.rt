@@ -25,26 +25,16 @@ impl Record {
     };
 }
 
-// Where the record of a row stands, or how many records there are.
-pub(crate) fn place(records: &[Record], row: RowKey) -> usize
+// Where the record of a row stands.
+pub(crate) fn place(records: &[Record], row: RowKey) -> Option<usize>
     ensures { result ≡ place_in records.now row }
 {
-    for (i, r) in records.iter().enumerate() {
-        if r.row == row {
-            return i;
-        }
-    }
-    records.len()
+    records.iter().position(|r| r.row == row)
 }
 
 // The record of a row.
 pub(crate) fn find(records: &[Record], row: RowKey) -> Option<Record>
     ensures { result ≡ find_in records.now row }
 {
-    let i = place(records, row);
-    if i < records.len() {
-        Some(records[i])
-    } else {
-        None
-    }
+    records.iter().find(|r| r.row == row).copied()
 }

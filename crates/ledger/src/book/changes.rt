@@ -1,6 +1,7 @@
 // The lines of a ledger, and how one is added.
-ghost use Rattle.std.specs.Prelude.{◌≡◌, ◌+◌, ◌-◌, ◌≤◌, true, [], ◌∷◌, ◌++◌, drop, if◌then◌else◌, vec_len};
+ghost use Rattle.std.specs.Prelude.{◌≡◌, ◌+◌, ◌-◌, ◌≤◌, true, [], ◌∷◌, ◌++◌, drop, if◌then◌else◌};
 ghost use Rattle.host.specs.Keys.{is_row};
+ghost use Rattle.host.specs.Table.{capacity_of};
 ghost use Rattle.ledger.specs.Book.{ledger_view, lines_of, rest_of, free_of, rows_in};
 ghost use Rattle.ledger.specs.Fees.{posted, standing_fees};
 ghost use Rattle.ledger.specs.Lines.{last_of, Follows, begun_in, is_hold};
@@ -13,7 +14,7 @@ impl Ledger {
     pub fn lines(&self) -> &[Line]
         ensures { result.now ≡ lines_of self.now }
     {
-        &self.table.as_slice()[0..self.used]
+        self.table.used()
     }
 
     /// Posts less contras, which is the sum of the fees that stand.
@@ -28,7 +29,7 @@ impl Ledger {
     pub(super) fn free(&self) -> u16
         ensures { result ≡ free_of self.now }
     {
-        let most = self.table.len().min(LINES) / 3;
+        let most = self.table.capacity().min(LINES) / 3;
         (most - self.begun) as u16
     }
 
@@ -36,15 +37,12 @@ impl Ledger {
     pub(super) fn add(&mut self, new: Line)
         requires row { is_row new.row ≡ true }
         requires follows { Follows (last_of (lines_of self.old) new.row) new }
-        requires room { begun_in (lines_of self.old) + (if is_hold new.mark then 1 else 0) ≤ rows_in (vec_len self.old.table) }
+        requires room { begun_in (lines_of self.old) + (if is_hold new.mark then 1 else 0) ≤ rows_in (capacity_of self.old.table) }
         ensures lines { lines_of self.new ≡ lines_of self.old ++ new ∷ [] }
         ensures rest { rest_of self.new ≡ drop 1 (rest_of self.old) }
         ensures free { free_of self.new ≡ free_of self.old - (if is_hold new.mark then 1 else 0) }
     {
-        let i = self.used;
-        let begun = self.begun + new.mark.begins();
-        self.table[i] = new;
-        self.used = i + 1;
-        self.begun = begun;
+        self.table.push(new).unwrap();
+        self.begun += new.mark.begins();
     }
 }

@@ -15,15 +15,15 @@ impl ScoreBook {
     pub fn records(&self) -> &[Record]
         ensures { result.now ≡ records_of self.now }
     {
-        &self.table.as_slice()[0..self.used]
+        self.table.used()
     }
 
     // How many more records may be used.
     pub(super) fn free(&self) -> u16
         ensures { result ≡ free_of self.now }
     {
-        let most = self.table.len().min(ROWS as usize);
-        (most - self.used) as u16
+        let most = self.table.capacity().min(usize::from(ROWS));
+        (most - self.table.used().len()) as u16
     }
 
     // Uses one more record.
@@ -36,9 +36,7 @@ impl ScoreBook {
         ensures rest { rest_of self.new ≡ drop 1 (rest_of self.old) }
         ensures free { free_of self.new ≡ free_of self.old - 1 }
     {
-        let i = self.used;
-        self.table[i] = new;
-        self.used = i + 1;
+        self.table.push(new).unwrap();
     }
 
     // Puts the record of a row, if there is one, into another state.
@@ -48,11 +46,9 @@ impl ScoreBook {
         ensures rest { rest_of self.new ≡ rest_of self.old }
         ensures free { free_of self.new ≡ free_of self.old }
     {
-        let i = place(self.records(), row);
-        if i < self.used {
-            let mut turned = self.table[i];
-            turned.state = to;
-            self.table[i] = turned;
+        if let Some(i) = place(self.records(), row) {
+            let old = self.table.used()[i];
+            self.table.set(i, Record { state: to, ..old });
         }
     }
 }

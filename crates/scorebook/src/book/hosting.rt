@@ -3,14 +3,14 @@ ghost use Rattle.std.specs.Prelude.{◌≡◌, min, false, [], ◌++◌, vec_len
 ghost use Rattle.values.specs.declared.HostState.TheVariants.{Open, Standing, Void, Reversed};
 ghost use Rattle.values.specs.declared.Kind.TheVariants.{Score};
 ghost use Rattle.host.specs.Keys.{rows_most};
-ghost use Rattle.host.specs.View.{Begins, Moves, Between, Fresh, blank, is_unknown};
+ghost use Rattle.host.specs.View.{Begins, Moves, Fresh, blank, is_unknown};
 ghost use Rattle.scorebook.specs.Book.{book_view, records_of, rest_of, Adds, Turns};
 ghost use Rattle.scorebook.specs.Sounds.{booked_sound};
 
 use crate::book::ScoreBook;
 use crate::records::{Record, find};
-use host::{Controls, Host, NoCommand, RowKey, declined, is_row};
-use values::{Cause, Entry, Fault, HostState, Kind};
+use host::{Controls, Host, NoCommand, RowKey, Table};
+use values::{Entry, Fault, HostState, Kind};
 
 impl ScoreBook {
     /// An empty score book over a table of any length, also 0.
@@ -20,22 +20,17 @@ impl ScoreBook {
         ensures records { records_of result ≡ [] }
         ensures rest { rest_of result ≡ table.items }
     {
-        ScoreBook { table, used: 0 }
+        ScoreBook {
+            table: Table::new(table),
+        }
     }
 
     /// Closes the book and gives the table back: the records in use, and then the rest as it was.
     pub fn into_table(self) -> Vec<Record>
         ensures { result.items ≡ records_of self ++ rest_of self }
     {
-        let ScoreBook { table, used: _ } = self;
-        table
-    }
-
-    // Whether there is no room for a kind.
-    fn is_full(&self, kind: Kind) -> bool
-        ensures { result ≡ ((book_view self.now).room kind == 0) }
-    {
-        self.room(kind) == 0
+        let ScoreBook { table } = self;
+        table.into_items()
     }
 
     // Turns a row from one state to another.
@@ -45,9 +40,7 @@ impl ScoreBook {
         ensures does { Moves from to (book_view self.old) row result (book_view self.new) }
         ensures turns { Turns from to self.old self.new row }
     {
-        if !self.state(row).is(from) {
-            return declined(Cause::OtherState, row);
-        }
+        self.may_move(row, from)?;
         self.restate(row, to);
         Ok(())
     }
@@ -62,15 +55,7 @@ impl Host for ScoreBook {
         ensures does { Begins (book_view self.old) row entry result (book_view self.new) }
         ensures adds { Adds self.old self.new row entry }
     {
-        if !is_row(row) {
-            return declined(Cause::OtherState, row);
-        }
-        if !self.state(row).is(HostState::Unknown) {
-            return declined(Cause::OtherState, row);
-        }
-        if self.is_full(entry.kind) {
-            return declined(Cause::NoRoom, row);
-        }
+        self.may_begin(row, entry.kind)?;
         self.add(Record {
             row,
             entry,
@@ -105,35 +90,27 @@ impl Host for ScoreBook {
     }
 
     fn room(&self, kind: Kind) -> u16 {
-        if kind.is(Kind::Score) { self.free() } else { 0 }
+        if kind == Kind::Score { self.free() } else { 0 }
     }
 
     fn state(&self, row: RowKey) -> HostState {
-        match find(self.records(), row) {
-            Some(r) => r.state,
-            None => HostState::Unknown,
-        }
+        find(self.records(), row).map_or(HostState::Unknown, |r| r.state)
     }
 
     fn entry(&self, row: RowKey) -> Option<Entry> {
-        match find(self.records(), row) {
-            Some(r) => Some(r.entry),
-            None => None,
-        }
+        find(self.records(), row).map(|r| r.entry)
     }
 }
 
+// One impl for each book: an impl for every host with no controls would overlap those of Pair and Switch.
 impl Controls for ScoreBook {
     type Command = NoCommand;
 
     ghost shuts = { λ _ _. false };
 
-    fn control(&mut self, _command: NoCommand) -> bool
-        ensures between { Between (book_view self.old) (book_view self.new) }
-        ensures shut { (book_view self.new).shut ≡ false }
-        ensures answers { result ≡ false }
-        ensures same { self.new ≡ self.old }
-    {
+    ghost leaves = { λ old _ new. new ≡ old };
+
+    fn control(&mut self, _command: NoCommand) -> bool {
         self.is_shut()
     }
 }

@@ -1,25 +1,14 @@
 -- One record more is in use.
-use Rattle.std.proofs.Common.{◌≡◌, ◌+◌, ◌<◌, true, length, sym, ◌∙◌, subst, arith}
-use Rattle.std.proofs.lemmas.List.{take_more_set, drop-set-lt, drop-drop}
+use Rattle.std.proofs.Common.{◌≡◌, ◌<◌, true, ◌++◌, ◌∷◌, [], length, sym, subst, arith}
+use Rattle.host.proofs.Tables.{has_room, all_pushed}
 use Rattle.scorebook.specs.Records.{well}
 use Rattle.scorebook.proofs.Turned.{well_push}
 use Rattle.scorebook.proofs.book.ScoreBook.add.Goals as goal
 
-pub invariant_of-self : goal.invariant_of-self
-invariant_of-self c =
-    let b = c.args.self.now in
-    let less : b.used < length b.table.items = omega (arith, c.requires.space, b.table.ok.0) in
-    let more = take_more_set b.table.items b.used c.args.new less in
-    let sound = well_push _ c.args.new b.sound c.requires.row c.requires.known c.requires.unused in
-    record { within = omega (arith, c.requires.space); sound = subst (λ xs. well xs ≡ true) (sym more) sound }
-
-pub returns : goal.returns
-returns c =
-    let b = c.args.self.now in
-    let less : b.used < length b.table.items = omega (arith, c.requires.space, b.table.ok.0) in
-    let next : b.used < b.used + 1 = omega arith in
-    record {
-      records = take_more_set b.table.items b.used c.args.new less;
-      rest = drop-set-lt (b.used + 1) b.table.items b.used c.args.new next ∙ sym (drop-drop 1 b.used b.table.items);
-      free = omega arith;
-    }
+pub invariant_of-self-clause-sound : goal.invariant_of-self-clause-sound
+invariant_of-self-clause-sound c =
+    let t = c.args.self.now.table in
+    let room : 0 < length t.rest = omega (arith, c.requires.space) in
+    let more = all_pushed (t.used ++ c.args.new ∷ []) t.used (has_room room c.push.ensures.test) c.push.ensures.used in
+    subst (λ xs. well xs ≡ true) (sym more)
+    (well_push _ c.args.new c.args.self.now.sound c.requires.row c.requires.known c.requires.unused)
