@@ -1,38 +1,25 @@
 -- What the walks of an abort mark. Assumes nothing.
-use Rattle.std.proofs.Common.{◌≡◌, ℕ, ◌≤◌, Bool, true, List, length, get_or, is_ok, Ok, Err, Decides, Result, sym, refl, ap, ◌∙◌, inl, inr}
+use Rattle.std.proofs.Common.{◌≡◌, ℕ, ◌≤◌, Bool, true, List, length, is_ok, Ok, Err, Decides, Result, sym, refl, ◌∙◌}
 use borrow.Author.Tests.{clash}
-use Rattle.std.proofs.lemmas.Bool.{cases_Bool, and_left, and_from}
-use Rattle.values.specs.Numbers.{same_state}
-use Rattle.values.specs.declared.Mode.TheVariants.{Complete}
-use Rattle.values.specs.declared.RowState.TheVariants.{Absent, Committed}
-use Rattle.graph.specs.Column.{marked, Kept}
+use Rattle.std.specs.Result.{MatchResult}
+use Rattle.graph.specs.Column.{marked}
 use Rattle.graph.specs.Reach.{Within, Start, Reached, start, step, Explored}
 use Rattle.model.specs.Chart.{Chart}
 use Rattle.model.specs.Rollback.{uncut, backward}
-use Rattle.model.specs.Rows.{in_state}
 use Rattle.model.specs.Sheets.{Lower}
-use Rattle.model.proofs.Basics.{same_state_eq}
 use Rattle.rows.specs.declared.row.Row.{Row}
 use Rattle.rows.specs.Arrows.{Drawn, forth, back, passed_preds}
 use Rattle.rows.specs.Columns.{columns, preds_of, Positive}
-use Rattle.rows.specs.Marking.{Walked, Passing, AllMarked, PartMarked, StruckMarked}
+use Rattle.rows.specs.Marking.{Passing, AllMarked, PartMarked}
 use Rattle.rows.proofs.Arrows.{joins_forth, joins_cut, lower_cut}
-use Rattle.rows.proofs.Columns.{known_within}
 use Rattle.rows.proofs.Passing.{start_passes, passing_starts}
 use Rattle.rows.proofs.Walks.{back_within, forth_within}
 
 -- ── room or not ──
 
--- a walk keeps what follows the marks
-pub walk_keeps : {T E : Type 0} (r : Result T E) (Arrow : ℕ → ℕ → Type 0) (Starts : ℕ → Type 0) (xs ys ls ms : List ℕ)
-    → Walked r (λ _. Explored Arrow Starts xs ys) xs ys ls ms → Kept xs ys
-walk_keeps (Ok x) Arrow Starts xs ys ls ms e = record { rest = e.rest; size = e.size }
-walk_keeps (Err x) Arrow Starts xs ys ls ms e = record { rest = λ k _. ap (λ zs. get_or zs k 0) e.0; size = ap length e.0 }
-
-pub walked_ok : {T E : Type 0} (r : Result T E) (Done : Type 0) (xs ys ls ms : List ℕ) → is_ok r ≡ true → Done
-    → Walked r (λ _. Done) xs ys ls ms
-walked_ok (Ok x) Done xs ys ls ms ok d = d
-walked_ok (Err x) Done xs ys ls ms ok d = absurd (clash ok)
+pub walked_ok : {T E : Type 0} (r : Result T E) (Done No : Type 0) → is_ok r ≡ true → Done → MatchResult r (λ _. Done) (λ _. No)
+walked_ok (Ok x) Done No ok d = d
+walked_ok (Err x) Done No ok d = absurd (clash ok)
 
 -- ── the marks ──
 
@@ -70,14 +57,3 @@ module _ (rows : List Row) (lower : Lower (preds_of rows)) (positive : Positive 
             passing_starts (marked xs) starts them n few u row m),
         (λ s. sym (part u) ∙ start_passes (marked xs) starts them n u s),
       )
-
--- where all rows are marked, the committed ones are
-pub struck_all : (c : Chart) (rows : List Row) (xs : List ℕ) → AllMarked (columns rows) xs
-    → StruckMarked c (columns rows) Complete xs
-struck_all c rows xs all k =
-    elim (cases_Bool (in_state (columns rows) Committed k)) [
-      | inl t ↦
-          let (low, high) = known_within rows k (ap (λ s. same_state s Absent) (same_state_eq _ Committed t)) in
-          and_from (in_state (columns rows) Committed k) (marked xs k) t (all k (low, high)) ∙ sym t
-      | inr f ↦ and_left (in_state (columns rows) Committed k) (marked xs k) f ∙ sym f
-    ]

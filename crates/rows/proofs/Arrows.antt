@@ -1,11 +1,7 @@
 -- Which numbers the arrows of a table join, and the same of the arrows that are left of them. Assumes nothing.
-use Rattle.std.proofs.Common.{◌≡◌, ℕ, ◌<◌, Bool, true, false, cond, not, ◌&&◌, eqb, List, [], ◌∷◌, length, filter, Option, sym, refl, ap, ◌∙◌, inl, inr, arith}
+use Rattle.std.proofs.Common.{◌≡◌, ℕ, ◌<◌, Bool, true, false, cond, not, List, [], length, Option, sym, ap, ◌∙◌, inl, inr, arith}
 use borrow.Author.Tests.{clash}
-use Rattle.std.specs.List.{HoldsAt, IsAnyAnswer}
-use Rattle.std.proofs.lemmas.List.Elements.{contains_decides}
-use Rattle.std.proofs.lemmas.List.{get_or_default}
-use Rattle.std.proofs.lemmas.Bool.{cases_lt, cases_eq, eq-eqb, ne_eqb, and_parts}
-use Rattle.std.proofs.lemmas.Bool.Decides.{same_from_decides, Decides-eqb}
+use Rattle.std.proofs.lemmas.Bool.{cases_lt, and_parts}
 use Rattle.graph.specs.Reach.{Within, Least}
 use Rattle.model.specs.Chart.{Chart}
 use Rattle.model.specs.Rollback.{uncut}
@@ -13,34 +9,14 @@ use Rattle.values.specs.declared.RowState.TheVariants.{PassedOver}
 use Rattle.model.specs.Rows.{in_state, is_savepoint}
 use Rattle.model.specs.Search.{has}
 use Rattle.model.specs.Sheets.{Lower}
-use Rattle.model.proofs.Accepted.{has_place}
 use Rattle.rows.specs.declared.row.Row.{Row}
 use Rattle.rows.specs.Arrows.{Drawn, forth, back, passed_preds}
-use Rattle.rows.specs.Columns.{listed, columns, preds_of, Positive}
+use Rattle.rows.specs.Columns.{columns, preds_of, Positive}
 use Rattle.rows.proofs.Columns.{row_past}
 use Rattle.rows.proofs.Leasts.{least_like}
-use Rattle.rows.proofs.Lists.{any_found}
+use Rattle.rows.proofs.Lists.{has_kept}
 
 -- ── lists ──
-
--- what `contains` answers
-pub contains_has : (xs : List ℕ) (x : ℕ) (r : Bool) → IsAnyAnswer (λ y t. eqb y x ≡ t) xs r → r ≡ has x xs
-contains_has xs x r h = same_from_decides r (has x xs) (contains_decides eqb Decides-eqb xs x r h) (placed, found)
-  where
-    placed : has x xs ≡ true → (k : ℕ) × (k < length xs) × HoldsAt (λ y. y ≡ x) xs k
-    placed m = let (i, inside, e) = has_place x xs m in (i, inside, λ d. get_or_default xs i d 0 inside ∙ e)
-
-    found : (k : ℕ) × (k < length xs) × HoldsAt (λ y. y ≡ x) xs k → has x xs ≡ true
-    found (i, inside, e) = any_found (eqb x) xs i 0 inside (eq-eqb x _ (sym (e 0)))
-
-has_kept : (p : ℕ → Bool) (k : ℕ) (xs : List ℕ) → has k (filter p xs) ≡ (has k xs && p k)
-has_kept p k [] = refl
-has_kept p k (x ∷ xs) =
-    let rest = has_kept p k xs in
-    elim (cases_eq k x) [
-      | inl e ↦ let same = ap p e in let met = eq-eqb k x e in grind arith
-      | inr n ↦ let not_met = ne_eqb k x n in grind arith
-    ]
 
 -- what stands in a list or in none stands in the list
 pub has_cond : (b : Bool) (xs : List ℕ) (k : ℕ) → has k (cond b xs []) ≡ true → has k xs ≡ true
@@ -66,7 +42,7 @@ least_drawn n arrow joins j after o h =
 module _ (rows : List Row) (lower : Lower (preds_of rows)) (positive : Positive (preds_of rows)) where
   -- only rows have predecessors
   pub no_preds : (k : ℕ) → length rows < k → preds_of rows k ≡ []
-  no_preds k h = sym (ap (λ r. listed r.predecessors) (row_past rows k (inr h)))
+  no_preds k h = sym (ap (λ r. r.predecessors.items) (row_past rows k (inr h)))
 
   pub joins_forth : Joins (length rows) (forth (preds_of rows))
   joins_forth j k a =

@@ -1,7 +1,7 @@
 -- Searches among the numbers below another: what they find where it is known. Assumes nothing.
-use Rattle.std.proofs.Common.{◌≡◌, ℕ, zero, suc, ◌+◌, ◌<◌, Bool, true, false, cond, ◌&&◌, ltb, Some, None, sym, refl, ap, ◌∙◌, subst, ap₂, inl, inr, arith}
+use Rattle.std.proofs.Common.{◌≡◌, ℕ, zero, suc, ◌<◌, Bool, true, false, cond, Some, None, sym, refl, ap, ◌∙◌, ap₂, inl, inr, arith}
 use Rattle.std.specs.Option.{option_or}
-use Rattle.std.proofs.lemmas.Bool.{cases_eq, cases_lt, or_from, and_left, and_right, le-ltb}
+use Rattle.std.proofs.lemmas.Bool.{cases_eq, or_from}
 use Rattle.model.specs.Search.{any_below, first_below}
 
 -- none passes
@@ -25,21 +25,4 @@ first_is (suc n) p k l t none =
           ap₂ (λ o b. option_or o (cond b (Some n) None)) (first_none n p (λ j h. none j (omega arith))) (ap p (sym e) ∙ t)
           ∙ ap Some (sym e)
       | inr ne ↦ ap (λ o. option_or o (cond (p n) (Some n) None)) (first_is n p k (omega arith) t none)
-    ]
-
--- ── only above another ──
-
--- what holds of those between, and of the next, holds of one more
-pub above_more : (P : ℕ → Type 0) (low k : ℕ) → ((j : ℕ) → low < j → j < k → P j) → P k
-    → (j : ℕ) → low < j → j < k + 1 → P j
-above_more P low k between here j l h =
-    elim (cases_eq j k) [ inl e ↦ subst P (sym e) here | inr ne ↦ between j l (omega arith) ]
-
--- none above `low` passes
-pub none_above : (p : ℕ → Bool) (low n : ℕ) → ((j : ℕ) → low < j → j < n → p j ≡ false)
-    → (k : ℕ) → k < n → (ltb low k && p k) ≡ false
-none_above p low n none k h =
-    elim (cases_lt low k) [
-      | inl l ↦ and_right (ltb low k) (p k) (none k l h)
-      | inr le ↦ and_left (ltb low k) (p k) (le-ltb low k le)
     ]

@@ -1,11 +1,13 @@
 -- A row read, written and added, as columns. Assumes nothing.
-use Rattle.std.proofs.Common.{◌≡◌, ℕ, ◌+◌, ◌-◌, ◌<◌, ◌≤◌, Bool, true, false, cond, eqb, ◌⊎◌, List, [], ◌∷◌, ◌++◌, length, get_or, set, sym, refl, ap, ◌∙◌, subst, inl, inr, ⊎_elim, arith, length-set, get_or-set_other, get_or-set_same}
+use Rattle.std.proofs.Common.{◌≡◌, ℕ, ◌+◌, ◌-◌, ◌<◌, ◌≤◌, Bool, true, false, cond, eqb, ◌⊎◌, List, [], ◌∷◌, ◌++◌, length, get_or, set, Some, None, Option, sym, refl, ap, ◌∙◌, subst, inl, inr, ⊎_elim, arith, length-set, get_or-set_other, get_or-set_same}
 use mathlib.Core.Path.{fun_ext}
+use denote.Ref.{Bor}
+use Rattle.std.specs.Option.{MatchOption, option_copied, unwrap_or}
 use Rattle.std.proofs.lemmas.Bool.Decides.{nat_tests, eqb_tells, leb_tells}
 use Rattle.std.proofs.lemmas.List.{get_or_past, get_or_push, get_or_append_left, length-append, length_push}
 use Rattle.model.specs.Search.{at_put}
 use Rattle.rows.specs.declared.row.Row.{Row}
-use Rattle.rows.proofs.Numbered.{past, inside}
+use Rattle.rows.proofs.Numbered.{past, inside, unwrap_or-numbered}
 use Rattle.values.specs.declared.Entry.{Entry}
 use Rattle.values.specs.declared.RowState.{RowState}
 use Rattle.values.specs.declared.RowState.TheVariants.{Absent, Running}
@@ -15,14 +17,20 @@ use Rattle.model.specs.Rows.{marked, added}
 use Rattle.model.specs.Sheets.{Lower}
 use Rattle.model.proofs.Basics.{put_all}
 use Rattle.std.proofs.lemmas.Bool.{eqb-true}
-use Rattle.rows.specs.declared.row.Predecessors.{Predecessors}
-use Rattle.rows.specs.Columns.{no_row, row_at, listed, preds_of, columns, Positive}
+use Rattle.arrayvec.specs.ArrayVec.{ArrayVec}
+use Rattle.rows.specs.Columns.{no_row, numbered, row_at, preds_of, columns, Positive}
 
 pub row_past : (rows : List Row) (k : ℕ) → (k ≡ 0) ⊎ (length rows < k) → no_row ≡ row_at rows k
 row_past rows k o = past no_row rows k o
 
 pub row_inside : (rows : List Row) (k : ℕ) (y : Row) → 0 < k → k ≤ length rows → y ≡ get_or rows (k - 1) y → y ≡ row_at rows k
 row_inside rows k y h l e = inside no_row rows k y h l e
+
+-- a row looked up by its number
+pub row_found : (rows : List Row) (k : ℕ) (o : Option (Bor Row)) → option_copied o ≡ numbered rows k
+    → MatchOption o (row_at rows k ≡ no_row) (λ y. y.now ≡ row_at rows k)
+row_found rows k None e = sym (unwrap_or-numbered rows k no_row) ∙ ap (λ q. unwrap_or q no_row) (sym e)
+row_found rows k (Some y) e = ap (λ q. unwrap_or q no_row) e ∙ unwrap_or-numbered rows k no_row
 
 -- the same, where rows are counted from 0
 pub row_index : (rows : List Row) (i : ℕ) (y : Row) → i < length rows → y ≡ get_or rows i y → y ≡ row_at rows (i + 1)
@@ -120,7 +128,7 @@ module _ (rows : List Row) (k : ℕ) (y : Row) (to : RowState) (low : 0 < k) (hi
   columns_marked = λ i. record {
     count = length-set rows (k - 1) (turned y to) i;
     step = kept (λ r. r.step) refl i;
-    preds = kept (λ r. listed r.predecessors) refl i;
+    preds = kept (λ r. r.predecessors.items) refl i;
     entry = kept (λ r. r.entry) refl i;
     state = (ap (λ g j. (g j).state) same_row ∙ column_put (λ r. r.state) (row_at rows) k (turned y to)) i;
   }
@@ -129,16 +137,16 @@ module _ (rows : List Row) (k : ℕ) (y : Row) (to : RowState) (low : 0 < k) (hi
   rolled_marked = kept (λ r. r.rolled) refl
 
   pub lower_marked : Lower (preds_of rows) → Lower (preds_of (set rows (k - 1) (turned y to)))
-  lower_marked h = subst Lower (sym (kept (λ r. listed r.predecessors) refl)) h
+  lower_marked h = subst Lower (sym (kept (λ r. r.predecessors.items) refl)) h
 
   pub positive_marked : Positive (preds_of rows) → Positive (preds_of (set rows (k - 1) (turned y to)))
-  positive_marked h = subst Positive (sym (kept (λ r. listed r.predecessors) refl)) h
+  positive_marked h = subst Positive (sym (kept (λ r. r.predecessors.items) refl)) h
 
-abbrev pub opened : ℕ → Predecessors → Entry → Row
+abbrev pub opened : ℕ → ArrayVec ℕ → Entry → Row
 opened step ps e = record { step = step; predecessors = ps; entry = e; state = Running; rolled = 0 }
 
 -- one row added
-module _ (rows : List Row) (step : ℕ) (ps : Predecessors) (fs : List ℕ) (e : Entry) (is : listed ps ≡ fs) where
+module _ (rows : List Row) (step : ℕ) (ps : ArrayVec ℕ) (fs : List ℕ) (e : Entry) (is : ps.items ≡ fs) where
   abbrev more : List Row
   more = rows ++ opened step ps e ∷ []
 
@@ -146,7 +154,7 @@ module _ (rows : List Row) (step : ℕ) (ps : Predecessors) (fs : List ℕ) (e :
   grown f = ap (λ g j. f (g j)) (row_push rows (opened step ps e)) ∙ column_put f (row_at rows) (length rows + 1) (opened step ps e)
 
   preds_grown : preds_of more ≡ at_put (preds_of rows) (length rows + 1) fs
-  preds_grown = grown (λ r. listed r.predecessors) ∙ ap (at_put (preds_of rows) (length rows + 1)) is
+  preds_grown = grown (λ r. r.predecessors.items) ∙ ap (at_put (preds_of rows) (length rows + 1)) is
 
   pub columns_added : columns more ≡ added (columns rows) step fs e
   columns_added = λ i. record {

@@ -2,13 +2,13 @@
 use Rattle.std.proofs.Common.{◌≡◌, ℕ, ◌+◌, ◌-◌, ◌<◌, ◌≤◌, Bool, cond, eqb, ltb, ◌⊎◌, List, length, set, sym, refl, ap, ◌∙◌, subst, inl, inr, arith}
 use mathlib.Core.Path.{fun_ext}
 use Rattle.std.proofs.lemmas.Bool.Decides.{nat_tests}
-use Rattle.std.proofs.lemmas.Bool.{cases_Bool, ltb-true, ltb-false, lt-ltb, le-ltb, eqb-true, eqb-false}
+use Rattle.std.proofs.lemmas.Bool.{cases_Bool, ltb-false, lt-ltb, le-ltb, eqb-true, eqb-false}
 use Rattle.process.specs.declared.parts.Step.{Step}
 use Rattle.model.specs.Search.{at_put}
 use Rattle.model.specs.Rows.{with_states}
 use Rattle.model.specs.Sheets.{Lower}
 use Rattle.rows.specs.declared.row.Row.{Row}
-use Rattle.rows.specs.Columns.{no_row, row_at, row_fallen, listed, preds_of, columns, Positive}
+use Rattle.rows.specs.Columns.{no_row, row_at, row_fallen, preds_of, columns, Positive}
 use Rattle.rows.proofs.Columns.{row_past, row_set}
 
 module _ (steps : List Step) (mark : ℕ → Bool) (number : ℕ) where
@@ -24,13 +24,6 @@ module _ (steps : List Step) (mark : ℕ → Bool) (number : ℕ) where
 
   past_falls : (rows : List Row) (k : ℕ) → (k ≡ 0) ⊎ (length rows < k) → fell rows k ≡ row_at rows k
   past_falls rows k o = let e = row_past rows k o in ap (row_fallen steps (mark k) number) (sym e) ∙ none_falls k ∙ e
-
-  pub fell_start : (rows : List Row) → row_at rows ≡ partly rows 0
-  fell_start rows = fun_ext (λ k. elim (cases_Bool (ltb k 1)) [
-    | inl t ↦ sym (ap (λ b. cond b (fell rows k) (row_at rows k)) t
-        ∙ past_falls rows k (inl (let l = ltb-true k 1 t in omega arith)))
-    | inr t ↦ sym (ap (λ b. cond b (fell rows k) (row_at rows k)) t)
-  ])
 
   pub fell_all : (rows : List Row) (i : ℕ) → length rows ≤ i → partly rows i ≡ fell rows
   fell_all rows i h = fun_ext (λ k. elim (cases_Bool (ltb k (i + 1))) [
@@ -76,13 +69,13 @@ module _ (steps : List Step) (mark : ℕ → Bool) (number : ℕ) where
     columns_fell = λ i. record {
       count = long i;
       step = λ k. (falls i k).step;
-      preds = λ k. listed (falls i k).predecessors;
+      preds = λ k. (falls i k).predecessors.items;
       entry = λ k. (falls i k).entry;
       state = λ k. (falls i k).state;
     }
 
     preds_fell : preds_of new ≡ preds_of rows
-    preds_fell = λ i k. listed (falls i k).predecessors
+    preds_fell = λ i k. (falls i k).predecessors.items
 
     pub lower_fell : Lower (preds_of rows) → Lower (preds_of new)
     lower_fell h = subst Lower (sym preds_fell) h

@@ -1,10 +1,11 @@
--- The least number above another that has something, found one by one. Assumes nothing.
-use Rattle.std.proofs.Common.{◌≡◌, ℕ, ◌+◌, ◌<◌, min, true, ◌||◌, eqb, leb, ◌⊎◌, List, length, get_or, take, Some, None, Option, sym, refl, ◌∙◌, subst, inl, inr, ⊎_elim, arith}
-use Rattle.std.proofs.lemmas.Bool.{cond_both, leb-true, leb-false, cases_lt, or_cases, or_left, or_right, eqb-true, eq-eqb}
+-- The least number of a list that is above another. Assumes nothing.
+use Rattle.std.proofs.Common.{◌≡◌, ℕ, ◌<◌, ◌≤◌, min, true, false, eqb, ltb, List, [], ◌∷◌, filter, Some, None, Option, sym, refl, ap, ◌∙◌, inl, inr, ⊎_elim, arith}
+use borrow.Author.Tests.{clash}
+use Rattle.std.specs.List.{fold, reduce}
+use Rattle.std.proofs.lemmas.Bool.{and_from, and_parts, cases_lt, eq-eqb, eqb-true, lt-ltb, ltb-true, or_cases, or_left, or_right}
 use Rattle.graph.specs.Reach.{Least}
 use Rattle.model.specs.Search.{has}
-use Rattle.rows.specs.Arrows.{least_with}
-use Rattle.rows.proofs.Lists.{any_take}
+use Rattle.rows.proofs.Lists.{has_kept}
 
 -- the same for what is equivalent
 pub least_like : (P Q : ℕ → Type 0) (after : ℕ) (o : Option ℕ) → ((k : ℕ) → P k → Q k) → ((k : ℕ) → Q k → P k)
@@ -12,40 +13,45 @@ pub least_like : (P Q : ℕ → Type 0) (after : ℕ) (o : Option ℕ) → ((k :
 least_like P Q after None to from h = λ k l q. h k l (from k q)
 least_like P Q after (Some t) to from h = (h.0, to t h.1, λ k l u q. h.2 k l u (from k q))
 
-module _ (P : ℕ → Type 0) (after x : ℕ) where
-  -- x has it too
-  abbrev More : ℕ → Type 0
-  More k = P k ⊎ (k ≡ x)
+-- the least of a list stands in it
+fold_least : (x : ℕ) (ys : List ℕ)
+    → (has (fold min x ys) (x ∷ ys) ≡ true) × ((k : ℕ) → has k (x ∷ ys) ≡ true → fold min x ys ≤ k)
+fold_least x [] = (
+  or_left (eqb x x) false (eq-eqb x x refl),
+  (λ k m. ⊎_elim (λ e. let same = eqb-true k x e in omega arith) (λ f. absurd (clash f)) (or_cases (eqb k x) false m)),
+)
+fold_least x (y ∷ zs) =
+    let m = fold min (min x y) zs in
+    let (there, least) = fold_least (min x y) zs in
+    let low = least (min x y) (or_left (eqb (min x y) (min x y)) (has (min x y) zs) (eq-eqb (min x y) (min x y) refl)) in (
+      ⊎_elim
+          (λ e. let is = eqb-true m (min x y) e in
+          elim (cases_lt x y) [
+            | inl l ↦ or_left (eqb m x) (has m (y ∷ zs)) (eq-eqb m x (omega arith))
+            | inr l ↦ or_right (eqb m x) (has m (y ∷ zs)) (or_left (eqb m y) (has m zs) (eq-eqb m y (omega arith)))
+          ])
+          (λ h. or_right (eqb m x) (has m (y ∷ zs)) (or_right (eqb m y) (has m zs) h))
+          (or_cases (eqb m (min x y)) (has m zs) there),
+      (λ k h. ⊎_elim (λ e. let same = eqb-true k x e in omega arith)
+          (λ h'. ⊎_elim (λ e. let same = eqb-true k y e in omega arith)
+          (λ t. least k (or_right (eqb k (min x y)) (has k zs) t)) (or_cases (eqb k y) (has k zs) h'))
+          (or_cases (eqb k x) (has k (y ∷ zs)) h)),
+    )
 
-  least_more : (o : Option ℕ) → Least P after o → Least More after (least_with after o x)
-  least_more None none =
-      cond_both (leb x after) None (Some x) (Least More after)
-      (λ e k l. ⊎_elim (none k l) (λ q. let low = leb-true x after e in omega arith))
-      (λ e. (leb-false x after e, inr refl, λ k l u. ⊎_elim (none k l) (λ q. omega arith)))
-  least_more (Some t) (above, it, least) =
-      cond_both (leb x after) (Some t) (Some (min t x)) (Least More after)
-      (λ e. (above, inl it, λ k l u. ⊎_elim (least k l u) (λ q. let low = leb-true x after e in omega arith)))
-      (λ e. let high = leb-false x after e in
-      elim (cases_lt x t) [
-        | inl less ↦ at x (omega arith) high (inr refl) (λ k l u. ⊎_elim (least k l (omega arith)) (λ q. omega arith))
-        | inr more ↦ at t (omega arith) above (inl it) (λ k l u. ⊎_elim (least k l u) (λ q. omega arith))
-      ])
-    where
-      at : (y : ℕ) → y ≡ min t x → after < y → More y → ((k : ℕ) → after < k → k < y → More k → ⊥)
-          → Least More after (Some (min t x))
-      at y e above is least = subst (λ z. Least More after (Some z)) e (above, is, least)
-
--- one more of a list
-pub least_next : (xs : List ℕ) (i after : ℕ) (o : Option ℕ) → i < length xs → Least (λ k. has k (take i xs) ≡ true) after o
-    → Least (λ k. has k (take (i + 1) xs) ≡ true) after (least_with after o (get_or xs i 0))
-least_next xs i after o inside h =
-    least_like (More (λ k. has k (take i xs) ≡ true) after x) (λ k. has k (take (i + 1) xs) ≡ true) after (least_with after o x)
-    (λ k. ⊎_elim (λ a. more k ∙ or_left (has k (take i xs)) (eqb k x) a) (λ e. more k ∙ or_right (has k (take i xs)) (eqb k x) (eq-eqb k x e)))
-    (λ k m. ⊎_elim inl (λ e. inr (eqb-true k x e)) (or_cases (has k (take i xs)) (eqb k x) (sym (more k) ∙ m)))
-    (least_more (λ k. has k (take i xs) ≡ true) after x o h)
+-- the least of those above `after`
+pub least_above : (xs : List ℕ) (after : ℕ) → Least (λ k. has k xs ≡ true) after (reduce min (filter (ltb after) xs))
+least_above xs after = go (filter (ltb after) xs) refl
   where
-    x : ℕ
-    x = get_or xs i 0
+    kept : (k : ℕ) → after < k → has k xs ≡ true → has k (filter (ltb after) xs) ≡ true
+    kept k l h = has_kept (ltb after) k xs ∙ and_from (has k xs) (ltb after k) h (lt-ltb after k l)
 
-    more : (k : ℕ) → has k (take (i + 1) xs) ≡ (has k (take i xs) || eqb k (get_or xs i 0))
-    more k = any_take (eqb k) xs i 0 inside
+    go : (ys : List ℕ) → ys ≡ filter (ltb after) xs → Least (λ k. has k xs ≡ true) after (reduce min ys)
+    go [] e = λ k l h. clash (ap (has k) e ∙ kept k l h)
+    go (y ∷ ys) e =
+        let m = fold min y ys in
+        let (there, least) = fold_least y ys in
+        let (listed, above) = and_parts (has m xs) (ltb after m) (sym (has_kept (ltb after) m xs) ∙ sym (ap (has m) e) ∙ there) in (
+          ltb-true after m above,
+          listed,
+          (λ k l u h. let le = least k (ap (has k) e ∙ kept k l h) in omega arith),
+        )

@@ -4,11 +4,11 @@ pub mod Below
 pub mod Clearing
 pub mod Columns
 pub mod Falls
-pub mod Fronts
 pub mod Later
 pub mod Leasts
 pub mod Links
 pub mod Lists
 pub mod Numbered
 pub mod Passing
+pub mod Ranges
 pub mod Walks

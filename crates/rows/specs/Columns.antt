@@ -1,5 +1,5 @@
 -- A list of rows as the model's columns. Assumes nothing.
-use Rattle.std.specs.Prelude.{◌≡◌, ℕ, ◌-◌, ◌≤◌, min, Bool, true, cond, not, ◌&&◌, ◌||◌, List, [], length, take, replicate, is_some, ◌==◌, nat_le, nat_lt, slice_index_or}
+use Rattle.std.specs.Prelude.{◌≡◌, ℕ, ◌-◌, ◌≤◌, Bool, true, cond, not, ◌&&◌, ◌||◌, List, [], length, is_some, None, Option, ◌==◌, nat_le, nat_lt, slice_get, slice_index_or}
 use Rattle.values.specs.declared.Flow.{Flow}
 use Rattle.values.specs.declared.RowState.TheVariants.{Absent, Running, Committed}
 use Rattle.model.specs.Search.{any, has}
@@ -8,18 +8,14 @@ use Rattle.process.specs.declared.parts.Step.{Step}
 use Rattle.model.specs.Chart.{by_flow, step_at}
 use Rattle.model.specs.Rollback.{fallen}
 use Rattle.model.specs.Rows.{Rows, no_entry, is_row, live}
-use Rattle.rows.specs.declared.row.Predecessors.{Predecessors}
 use Rattle.rows.specs.declared.row.Row.{Row}
 
--- the numbers that a list of predecessors has
-abbrev pub listed : Predecessors → List ℕ
-listed p = take (min p.count 8) p.numbers
-
-abbrev pub no_predecessors : Predecessors
-no_predecessors = record { numbers = replicate 8 0; count = 0 }
-
 abbrev pub no_row : Row
-no_row = record { step = 0; predecessors = no_predecessors; entry = no_entry; state = Absent; rolled = 0 }
+no_row = record { step = 0; predecessors = record { items = [] }; entry = no_entry; state = Absent; rolled = 0 }
+
+-- item k of a list, counted from 1
+abbrev pub numbered : {X : Type 0} → List X → ℕ → Option X
+numbered xs k = cond (k == 0) None (slice_get xs (k - 1))
 
 -- row k, counted from 1
 abbrev pub row_at : List Row → ℕ → Row
@@ -27,7 +23,7 @@ row_at rows k = cond (k == 0) no_row (slice_index_or rows (k - 1) no_row)
 
 -- the predecessors of a row, by its number
 abbrev pub preds_of : List Row → ℕ → List ℕ
-preds_of rows k = listed (row_at rows k).predecessors
+preds_of rows k = (row_at rows k).predecessors.items
 
 abbrev pub columns : List Row → Rows
 columns rows = record {

@@ -1,18 +1,22 @@
 -- What is marked once a table's rows were walked. Assumes nothing.
-use Rattle.std.specs.Prelude.{◌≡◌, ℕ, ◌+◌, ◌<◌, Bool, true, cond, ◌&&◌, ◌||◌, List, length, Option, Result, MatchResult, nat_lt, slice_index}
+use Rattle.std.specs.Prelude.{◌≡◌, ℕ, ◌+◌, ◌<◌, Bool, true, cond, ◌&&◌, ◌||◌, List, length, is_ok, Option, Result, MatchResult, nat_lt, slice_index}
 use Rattle.values.specs.declared.Mode.{Mode}
 use Rattle.values.specs.declared.RowState.TheVariants.{Committed, Due}
 use Rattle.graph.specs.Column.{marked}
 use Rattle.graph.specs.Reach.{Within}
+use Rattle.graph.specs.Scratch.{SameLoans, Untouched}
+use Rattle.graph.specs.declared.scratch.Scratch.{Scratch}
 use Rattle.model.specs.Calls.{lowest_row}
 use Rattle.model.specs.Chart.{Chart}
 use Rattle.model.specs.Rollback.{after, backward, linked, strikes}
 use Rattle.model.specs.Rows.{Rows, in_state}
 use Rattle.model.specs.Search.{any_below}
 
--- what a walk leaves, of a column and a line: where there was room, what it is for; else both are as they were
-abbrev pub Walked : {T E : Type 0} → Result T E → (T → Type 0) → List ℕ → List ℕ → List ℕ → List ℕ → Type 0
-Walked r Done column column' line line' = MatchResult r Done (λ _. (column' ≡ column) × (line' ≡ line))
+-- what a walk leaves of the memory that it is lent: it was done where there was room, and else that is as it was
+pub record Walked {T E : Type 0} (r : Result T E) (room : Bool) (Done : T → Type 0) (before after : Scratch) : Type 0 where
+  pub test : is_ok r ≡ room
+  pub answer : MatchResult r Done (λ _. Untouched before after)
+  pub loans : SameLoans before after
 
 -- an array of 256 numbers that has each number from 1 to 256 that passes the test at its place, and 0 at the others
 pub record Passing (p : ℕ → Bool) (xs : List ℕ) : Type 0 where

@@ -1,130 +1,129 @@
-// The rows of a table as the points of graphs, with its arrows in either direction.
-ghost use Rattle.std.specs.Prelude.{◌≡◌, true};
-ghost use Rattle.graph.specs.Reach.{Least};
+// The rows of a table as the points of graphs, with some of its arrows.
+ghost use Rattle.std.specs.Prelude.{◌≡◌, ℕ, Bool, true};
+ghost use Rattle.graph.specs.Held.{held};
+ghost use Rattle.graph.specs.Reach.{Least, Start, Explored};
+ghost use Rattle.graph.specs.Scratch.{roomy_in};
 ghost use Rattle.model.specs.Rollback.{uncut};
+ghost use Rattle.model.specs.Rows.{Rows};
 ghost use Rattle.model.specs.Search.{has};
-ghost use Rattle.rows.specs.Arrows.{Drawn, forth, back, passed_preds, least_with};
+ghost use Rattle.rows.specs.Arrows.{Drawn, forth, back, passed_preds};
+ghost use Rattle.rows.specs.Marking.{Walked};
 ghost use Rattle.rows.specs.Steps.{steps_only};
 ghost use Rattle.rows.specs.Tables.{rows_of};
 
 use crate::table::RowTable;
-use graph::reach::Graph;
+use graph::reach::{Graph, NoRoom, reach};
+use graph::scratch::Scratch;
 use process::parts::Step;
 use values::RowState;
 
-/// The rows, with an arrow from each to those that follow it.
-#[derive(Clone, Copy)]
-pub(crate) struct SheetArrows<'a> {
-    pub(crate) table: &'a RowTable,
+/// Arrows between the rows of a table, in either direction.
+pub(crate) trait Arrows: Drop {
+    ghost leads: { Self → Rows → ℕ → ℕ → Bool };
+
+    /// The least row above `after` that an arrow leads to from `from`.
+    fn next(&self, table: &RowTable, from: u16, after: u16) -> Option<u16>
+        ensures { Least (Drawn (rows_of table.now).count (leads self.now (rows_of table.now)) from)
+            after result };
 }
 
-/// The rows, with an arrow from each to its predecessors that are no savepoints.
-#[derive(Clone, Copy)]
-pub(crate) struct CutArrows<'a, 'b> {
-    pub(crate) table: &'a RowTable,
-    pub(crate) steps: &'b [Step],
+/// The rows of a table as the points of a graph.
+#[derive(Drop)]
+struct RowGraph<'a, A> {
+    table: &'a RowTable,
+    arrows: A,
 }
 
-/// The rows, with an arrow from each that is passed over to its predecessors.
-#[derive(Clone, Copy)]
-pub(crate) struct PassedArrows<'a> {
-    pub(crate) table: &'a RowTable,
-}
+impl<A: Arrows> Graph for RowGraph<'_, A> {
+    ghost points = { λ g. (rows_of g.table.now).count };
 
-/// The lower of the least so far and `x`, where `x` is above `after`.
-fn least_with(after: usize, least: Option<usize>, x: usize) -> Option<usize>
-    ensures { result ≡ least_with after least x }
-{
-    if x <= after {
-        return least;
+    ghost arrow = { λ g. Drawn (rows_of g.table.now).count (A.leads g.arrows (rows_of g.table.now)) };
+
+    ghost inside = { λ g j k a. (a.from_row, a.to_row) };
+
+    fn size(&self) -> usize {
+        self.table.len() as usize
     }
-    match least {
-        None => Some(x),
-        Some(t) => Some(t.min(x)),
+
+    fn next_target(&self, from: usize, after: usize) -> Option<usize> {
+        let from = u16::try_from(from).ok()?;
+        let after = u16::try_from(after).ok()?;
+        self.arrows.next(self.table, from, after).map(usize::from)
     }
 }
+
+impl RowTable {
+    /// Marks exactly the rows that are reached from `starts` along these arrows.
+    pub(crate) fn walk<A: Arrows>(
+        &self,
+        arrows: A,
+        starts: &[u16],
+        scratch: &mut Scratch,
+    ) -> Result<(), NoRoom>
+        ensures { Walked result (roomy_in (rows_of self.now).count scratch.old)
+            (λ _. Explored (Drawn (rows_of self.now).count (A.leads arrows (rows_of self.now)))
+            (Start (rows_of self.now).count starts.now)
+            (held scratch.old.marks.now) (held scratch.new.marks.now))
+            scratch.old scratch.new }
+    {
+        reach(
+            &RowGraph {
+                table: self,
+                arrows,
+            },
+            starts,
+            scratch,
+        )
+    }
+}
+
+/// From each row to those that follow it.
+#[derive(Drop)]
+pub(crate) struct Forth;
+
+/// From each row to its predecessors that are no savepoints.
+#[derive(Drop)]
+pub(crate) struct BackToSavepoints<'a> {
+    pub(crate) steps: &'a [Step],
+}
+
+/// From each row that is passed over to its predecessors.
+#[derive(Drop)]
+pub(crate) struct BackOverPassed;
 
 /// The least number of a list that is above `after`.
-fn least_above(list: &[u16], after: usize) -> Option<usize>
+fn least_above(list: &[u16], after: u16) -> Option<u16>
     ensures { Least (λ k. has k list.now ≡ true) after result }
 {
-    let mut least = None;
-    for x in list {
-        least = least_with(after, least, *x as usize);
-    }
-    least
+    list.iter().copied().filter(|&k| k > after).min()
 }
 
-/// The least row above `after` that follows `from` by one arrow. Rows have higher numbers than those that they follow.
-fn next_follower(table: &RowTable, from: usize, after: usize) -> Option<usize>
-    ensures { Least (λ k. has from ((rows_of table.now).preds k) ≡ true) after result }
-{
-    let count = table.len() as usize;
-    let low = from.max(after);
-    if low >= count {
-        return None;
-    }
-    for k in low + 1..count + 1 {
-        if table.predecessors(k as u16).contains(&(from as u16)) {
-            return Some(k);
-        }
-    }
-    None
-}
+impl Arrows for Forth {
+    ghost leads = { λ _ r. forth r.preds };
 
-impl Graph for SheetArrows<'_> {
-    ghost points = { λ g. (rows_of g.table.now).count };
-
-    ghost arrow = { λ g. Drawn (rows_of g.table.now).count (forth (rows_of g.table.now).preds) };
-
-    ghost inside = { λ g j k a. (a.from_row, a.to_row) };
-
-    fn size(&self) -> usize {
-        self.table.len() as usize
-    }
-
-    fn next_target(&self, from: usize, after: usize) -> Option<usize> {
-        next_follower(self.table, from, after)
+    fn next(&self, table: &RowTable, from: u16, after: u16) -> Option<u16> {
+        // a row has a higher number than those that it follows
+        table
+            .above(from.max(after))
+            .find(|&k| table.predecessors(k).contains(&from))
     }
 }
 
-impl Graph for CutArrows<'_, '_> {
-    ghost points = { λ g. (rows_of g.table.now).count };
+impl Arrows for BackToSavepoints<'_> {
+    ghost leads = { λ a r. back (uncut (steps_only a.steps.now) r) };
 
-    ghost arrow = { λ g. Drawn (rows_of g.table.now).count
-        (back (uncut (steps_only g.steps.now) (rows_of g.table.now))) };
-
-    ghost inside = { λ g j k a. (a.from_row, a.to_row) };
-
-    fn size(&self) -> usize {
-        self.table.len() as usize
+    fn next(&self, table: &RowTable, from: u16, after: u16) -> Option<u16> {
+        least_above(table.uncut(self.steps, from).as_slice(), after)
     }
+}
 
-    fn next_target(&self, from: usize, after: usize) -> Option<usize> {
-        if from > self.table.len() as usize {
+impl Arrows for BackOverPassed {
+    ghost leads = { λ _ r. back (passed_preds r) };
+
+    fn next(&self, table: &RowTable, from: u16, after: u16) -> Option<u16> {
+        if !table.is_in(RowState::PassedOver, from) {
             return None;
         }
-        least_above(self.table.uncut(self.steps, from as u16).as_slice(), after)
-    }
-}
-
-impl Graph for PassedArrows<'_> {
-    ghost points = { λ g. (rows_of g.table.now).count };
-
-    ghost arrow = { λ g. Drawn (rows_of g.table.now).count (back (passed_preds (rows_of g.table.now))) };
-
-    ghost inside = { λ g j k a. (a.from_row, a.to_row) };
-
-    fn size(&self) -> usize {
-        self.table.len() as usize
-    }
-
-    fn next_target(&self, from: usize, after: usize) -> Option<usize> {
-        if from > self.table.len() as usize
-            || !self.table.state(from as u16).is(RowState::PassedOver)
-        {
-            return None;
-        }
-        least_above(self.table.predecessors(from as u16), after)
+        least_above(table.predecessors(from), after)
     }
 }

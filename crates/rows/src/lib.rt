@@ -1,6 +1,7 @@
 //! The rows of a sheet: a table that is read and written by row numbers, and its arrows as graphs.
 #![tactic(auto)]
 
+mod counted;
 mod graphs;
 mod paths;
 mod row;
@@ -8,6 +9,6 @@ mod steps;
 mod struck;
 mod table;
 
-pub use row::{Predecessors, Row};
+pub use row::Row;
 pub use steps::step_at;
-pub use table::RowTable;
+pub use table::{RowTable, Unfit};

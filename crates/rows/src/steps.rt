@@ -3,33 +3,35 @@ ghost use Rattle.std.specs.Prelude.{◌≡◌};
 ghost use Rattle.model.specs.Chart.{step_at};
 ghost use Rattle.model.specs.Rollback.{uncut};
 ghost use Rattle.model.specs.Rows.{is_savepoint};
-ghost use Rattle.rows.specs.Columns.{listed};
 ghost use Rattle.rows.specs.Steps.{steps_only};
 ghost use Rattle.rows.specs.Tables.{rows_of};
 
-use crate::row::Predecessors;
+use crate::counted::numbered;
 use crate::table::RowTable;
+use arrayvec::ArrayVec;
 use process::parts::Step;
 use values::{Flow, Kind};
+
+// A step without any mark.
+const NO_STEP: Step = Step {
+    savepoint: false,
+    counterpart: false,
+    private: false,
+    entry: Flow::One,
+    exit: Flow::One,
+    kind: Kind::Score,
+};
 
 /// A step, counted from 1; one without any mark where there is none of that number.
 pub fn step_at(steps: &[Step], number: u16) -> Step
     ensures { result ≡ step_at (steps_only steps.now) number }
 {
-    if number == 0 || number as usize > steps.len() {
-        return Step {
-            savepoint: false,
-            counterpart: false,
-            private: false,
-            entry: Flow::One,
-            exit: Flow::One,
-            kind: Kind::Score,
-        };
-    }
-    steps[number as usize - 1]
+    numbered(steps, number).copied().unwrap_or(NO_STEP)
 }
 
 impl RowTable {
+    // The steps are the process's, which a table does not hold: a struct of both would be made anew for each call.
+
     /// Whether a row is one of a step at which a rollback stops.
     pub fn is_savepoint(&self, steps: &[Step], row: u16) -> bool
         ensures { result ≡ is_savepoint (steps_only steps.now) (rows_of self.now) row }
@@ -38,17 +40,15 @@ impl RowTable {
     }
 
     /// The predecessors of a row that are no savepoints.
-    pub fn uncut(&self, steps: &[Step], row: u16) -> Predecessors
-        ensures { listed result ≡ uncut (steps_only steps.now) (rows_of self.now) row }
+    pub fn uncut(&self, steps: &[Step], row: u16) -> ArrayVec<u16, 8>
+        ensures { result.items ≡ uncut (steps_only steps.now) (rows_of self.now) row }
     {
-        let mut numbers = [0; 8];
-        let mut count = 0;
+        let mut uncut = ArrayVec::new();
         for w in self.predecessors(row) {
             if !self.is_savepoint(steps, *w) {
-                numbers[count] = *w;
-                count += 1;
+                uncut.push(*w);
             }
         }
-        Predecessors { numbers, count }
+        uncut
     }
 }

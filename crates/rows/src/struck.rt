@@ -1,99 +1,79 @@
 // The rows that an abort strikes, marked.
-ghost use Rattle.std.specs.Prelude.{◌≡◌, true, length, is_ok};
-ghost use Rattle.graph.specs.Column.{marked, Kept};
+ghost use Rattle.std.specs.Prelude.{◌≡◌, cond};
+ghost use Rattle.graph.specs.Column.{marked};
 ghost use Rattle.graph.specs.Held.{held};
-ghost use Rattle.graph.specs.Reach.{roomy};
+ghost use Rattle.graph.specs.Scratch.{roomy_in};
 ghost use Rattle.rows.specs.Marking.{Walked, Passing, AllMarked, PartMarked, StruckMarked};
 ghost use Rattle.rows.specs.Steps.{steps_only};
 ghost use Rattle.rows.specs.Tables.{rows_of};
 
-use crate::graphs::{CutArrows, PassedArrows, SheetArrows};
+use crate::graphs::{BackOverPassed, BackToSavepoints, Forth};
 use crate::table::RowTable;
 use graph::marks::Marks;
-use graph::reach::{NoRoom, reach};
+use graph::reach::NoRoom;
+use graph::scratch::Scratch;
 use process::parts::Step;
 use values::Mode;
 
-/// The numbers from 1 to 256.
-fn all_numbers() -> [u16; 256]
-    ensures { Passing (λ _. true) result }
+// A walk passes over 0, which is no row: so these numbers need no length beside them.
+
+/// A number if it is marked, and else 0.
+fn if_marked(marks: &Marks, number: u16) -> u16
+    ensures { result ≡ cond (marked (held marks.now) number) number 0 }
 {
-    let mut numbers = [0; 256];
-    for i in 0..256 {
-        numbers[i] = i as u16 + 1;
+    if marks.is_set(usize::from(number)) {
+        number
+    } else {
+        0
     }
-    numbers
 }
 
-/// The numbers from 1 to 256 that are marked.
+/// The numbers from 1 to 256 that are marked, each at its place, and 0 at the other places.
 fn marked_numbers(marks: &Marks) -> [u16; 256]
     ensures { Passing (marked (held marks.now)) result }
 {
-    let mut numbers = [0; 256];
-    for i in 0..256 {
-        numbers[i] = if marks.is_set(i + 1) { i as u16 + 1 } else { 0 };
-    }
-    numbers
+    std::array::from_fn(|i| if_marked(marks, i as u16 + 1))
 }
 
 impl RowTable {
     /// Marks all rows.
-    fn mark_all(&self, marks: &mut Marks, line: &mut [u16]) -> Result<(), NoRoom>
-        ensures test { is_ok result ≡ roomy (rows_of self.now).count (length line.old)
-            (length (held marks.old)) }
-        ensures marked { Walked result (λ _. AllMarked (rows_of self.now) (held marks.new))
-            (held marks.old) (held marks.new) line.old line.new }
-        ensures kept { Kept (held marks.old) (held marks.new) }
-        ensures same { marks.new.column.ghost_name ≡ marks.old.column.ghost_name }
+    fn mark_all(&self, scratch: &mut Scratch) -> Result<(), NoRoom>
+        ensures { Walked result (roomy_in (rows_of self.now).count scratch.old)
+            (λ _. AllMarked (rows_of self.now) (held scratch.new.marks.now)) scratch.old scratch.new }
     {
-        reach(&PassedArrows { table: self }, &all_numbers(), marks, line)
+        let all: [u16; 256] = std::array::from_fn(|i| i as u16 + 1);
+        self.walk(BackOverPassed, &all, scratch)
     }
 
     /// Marks the backward part of row `f`, and all rows after it.
-    fn mark_part(
-        &self,
-        steps: &[Step],
-        f: u16,
-        marks: &mut Marks,
-        line: &mut [u16],
-    ) -> Result<(), NoRoom>
-        ensures test { is_ok result ≡ roomy (rows_of self.now).count (length line.old)
-            (length (held marks.old)) }
-        ensures marked { Walked result
-            (λ _. PartMarked (steps_only steps.now) (rows_of self.now) f (held marks.new))
-            (held marks.old) (held marks.new) line.old line.new }
-        ensures kept { Kept (held marks.old) (held marks.new) }
-        ensures same { marks.new.column.ghost_name ≡ marks.old.column.ghost_name }
+    fn mark_part(&self, steps: &[Step], f: u16, scratch: &mut Scratch) -> Result<(), NoRoom>
+        ensures { Walked result (roomy_in (rows_of self.now).count scratch.old)
+            (λ _. PartMarked (steps_only steps.now) (rows_of self.now) f (held scratch.new.marks.now))
+            scratch.old scratch.new }
     {
         let starts = self.uncut(steps, f);
-        let back = CutArrows { table: self, steps };
-        reach(&back, starts.as_slice(), marks, line)?;
-        let part = marked_numbers(marks);
-        reach(&SheetArrows { table: self }, &part, marks, line)
+        self.walk(BackToSavepoints { steps }, starts.as_slice(), scratch)?;
+        let part = marked_numbers(scratch.marks);
+        self.walk(Forth, &part, scratch)
     }
 
     /// Marks the rows that an abort strikes, and maybe rows that are not committed.
     ///
-    /// What was marked before does not matter. `line` wants a place for each row, and the column a mark for each;
-    /// where one is too short, nothing changes. What `line` holds afterwards is of no meaning.
+    /// What was marked before does not matter. The line wants a place for each row, and the column a mark for each;
+    /// where one is too short, nothing changes. What the line holds afterwards is of no meaning.
     pub fn mark_struck(
         &self,
         steps: &[Step],
         mode: Mode,
-        marks: &mut Marks,
-        line: &mut [u16],
+        scratch: &mut Scratch,
     ) -> Result<(), NoRoom>
-        ensures test { is_ok result ≡ roomy (rows_of self.now).count (length line.old)
-            (length (held marks.old)) }
-        ensures marked { Walked result
-            (λ _. StruckMarked (steps_only steps.now) (rows_of self.now) mode (held marks.new))
-            (held marks.old) (held marks.new) line.old line.new }
-        ensures kept { Kept (held marks.old) (held marks.new) }
-        ensures same { marks.new.column.ghost_name ≡ marks.old.column.ghost_name }
+        ensures { Walked result (roomy_in (rows_of self.now).count scratch.old)
+            (λ _. StruckMarked (steps_only steps.now) (rows_of self.now) mode (held scratch.new.marks.now))
+            scratch.old scratch.new }
     {
         match mode {
-            Mode::Complete => self.mark_all(marks, line),
-            Mode::Partial(f) => self.mark_part(steps, f, marks, line),
+            Mode::Complete => self.mark_all(scratch),
+            Mode::Partial(f) => self.mark_part(steps, f, scratch),
         }
     }
 }

@@ -13,6 +13,10 @@ mod writes;
 /// How many rows a table has at most.
 const MOST_ROWS: usize = 256;
 
+/// A row does not fit: the table is full, or the rows that it is to follow are more than eight or not all there.
+#[derive(Clone, Copy, PartialEq, Eq, Debug, Drop)]
+pub struct Unfit;
+
 /// The rows of a sheet, numbered from 1.
 #[derive(Drop)]
 pub struct RowTable {

@@ -1,5 +1,5 @@
 // The rows after an abort.
-ghost use Rattle.std.specs.Prelude.{◌≡◌, ℕ, Bool, cond, ◌&&◌, ◌||◌, [], vec_len, vec_capacity};
+ghost use Rattle.std.specs.Prelude.{◌≡◌, ℕ, Bool, cond, ◌&&◌, ◌||◌, [], length};
 ghost use Rattle.graph.specs.Column.{marked};
 ghost use Rattle.graph.specs.Held.{held};
 ghost use Rattle.values.specs.declared.RowState.TheVariants.{Running, Committed};
@@ -35,30 +35,25 @@ fn is_idle(steps: &[Step], row: &Row) -> bool
     !step.counterpart || !step.private && row.entry.number.is_none()
 }
 
-// A row after an abort with this number, which struck it if it is committed and marked.
-fn fallen_row(steps: &[Step], mark: bool, number: u16, row: Row) -> Row
-    ensures { result ≡ row_fallen steps.now mark number row }
+// A row once an abort with this number is done, which struck it if it is committed and marked.
+fn fall_row(row: &mut Row, steps: &[Step], mark: bool, number: u16)
+    ensures { row.new ≡ row_fallen steps.now mark number row.old }
 {
-    let struck = row.state.is(RowState::Committed) && mark;
-    let out = row.state.is(RowState::Running) || struck;
-    Row {
-        step: row.step,
-        predecessors: row.predecessors,
-        entry: row.entry,
-        state: fallen(row.state, struck, is_idle(steps, &row)),
-        rolled: if out { number } else { row.rolled },
+    let struck = row.state == RowState::Committed && mark;
+    if row.state == RowState::Running || struck {
+        row.rolled = number;
     }
+    row.state = fallen(row.state, struck, is_idle(steps, row));
 }
 
 // Every row after an abort; row 1 is the first of the list.
-fn fall_all(rows: &mut Vec<Row>, steps: &[Step], marks: &Marks, number: u16)
-    ensures rows { row_at rows.new.items
-        ≡ (λ k. row_fallen steps.now (marked (held marks.now) k) number (row_at rows.old.items k)) }
-    ensures len { vec_len rows.new ≡ vec_len rows.old }
-    ensures capacity { vec_capacity rows.new ≡ vec_capacity rows.old }
+fn fall_all(rows: &mut [Row], steps: &[Step], marks: &Marks, number: u16)
+    ensures rows { row_at rows.new
+        ≡ (λ k. row_fallen steps.now (marked (held marks.now) k) number (row_at rows.old k)) }
+    ensures len { length rows.new ≡ length rows.old }
 {
-    for i in 0..rows.len() {
-        rows[i] = fallen_row(steps, marks.is_set(i + 1), number, rows[i]);
+    for (i, row) in rows.iter_mut().enumerate() {
+        fall_row(row, steps, marks.is_set(i + 1), number);
     }
 }
 

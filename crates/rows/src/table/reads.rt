@@ -1,11 +1,19 @@
 // What a row holds, by its number.
-ghost use Rattle.std.specs.Prelude.{◌≡◌};
-ghost use Rattle.rows.specs.Columns.{row_at};
+ghost use Rattle.std.specs.Prelude.{◌≡◌, ◌+◌, ◌≤◌, min, length, MatchOption};
+ghost use Rattle.rows.specs.Columns.{no_row, row_at};
 ghost use Rattle.rows.specs.Tables.{rows_of, rolled_of};
 
 use super::RowTable;
-use crate::row::{Predecessors, Row};
+use crate::counted::numbered;
+use crate::row::Row;
+use std::ops::Range;
 use values::{Entry, Kind, RowState};
+
+// The entry of a row that is not there: an empty score.
+const NO_ENTRY: Entry = Entry {
+    kind: Kind::Score,
+    number: None,
+};
 
 impl RowTable {
     /// How many rows there are.
@@ -15,63 +23,60 @@ impl RowTable {
         self.rows.len() as u16
     }
 
-    // A row, or one without anything where there is none of that number.
-    fn find(&self, number: u16) -> Row
-        ensures { result ≡ row_at self.now.rows.items number }
+    /// The numbers of the rows above this one.
+    pub(crate) fn above(&self, number: u16) -> Range<u16>
+        ensures start { result.start ≡ min number (rows_of self.now).count + 1 }
+        ensures end { result.end ≡ (rows_of self.now).count + 1 }
     {
-        if number == 0 || number as usize > self.rows.len() {
-            return Row {
-                step: 0,
-                predecessors: Predecessors {
-                    numbers: [0; 8],
-                    count: 0,
-                },
-                entry: Entry {
-                    kind: Kind::Score,
-                    number: None,
-                },
-                state: RowState::Absent,
-                rolled: 0,
-            };
-        }
-        self.rows[number as usize - 1]
+        number.min(self.len()) + 1..self.len() + 1
     }
+
+    // The row of that number.
+    fn get(&self, number: u16) -> Option<&Row>
+        ensures { MatchOption result (row_at self.now.rows.items number ≡ no_row)
+            (λ row. row.now ≡ row_at self.now.rows.items number) }
+    {
+        numbered(&self.rows, number)
+    }
+
+    // The model's columns are total: a number that is no row's has the state absent, step 0, an empty score and rollback 0.
 
     /// A row's state; absent where there is no such row.
     pub fn state(&self, number: u16) -> RowState
         ensures { result ≡ (rows_of self.now).state number }
     {
-        self.find(number).state
+        self.get(number).map_or(RowState::Absent, |row| row.state)
     }
 
     /// A row's step; 0 where there is no such row.
     pub fn step(&self, number: u16) -> u16
         ensures { result ≡ (rows_of self.now).step number }
     {
-        self.find(number).step
+        self.get(number).map_or(0, |row| row.step)
     }
 
     /// A row's entry; an empty score where there is no such row.
     pub fn entry(&self, number: u16) -> Entry
         ensures { result ≡ (rows_of self.now).entry number }
     {
-        self.find(number).entry
+        self.get(number).map_or(NO_ENTRY, |row| row.entry)
     }
 
     /// The rollback that dropped or struck a row; 0 if none did.
     pub fn rolled(&self, number: u16) -> u16
         ensures { result ≡ rolled_of self.now number }
     {
-        self.find(number).rolled
+        self.get(number).map_or(0, |row| row.rolled)
     }
 
     /// The rows that a row follows by one arrow; none where there is no such row.
     pub fn predecessors(&self, number: u16) -> &[u16]
-        ensures { result.now ≡ (rows_of self.now).preds number }
+        ensures all { result.now ≡ (rows_of self.now).preds number }
+        ensures few { length result.now ≤ 8 }
     {
-        if number == 0 || number as usize > self.rows.len() {
-            return &[];
+        match self.get(number) {
+            Some(row) => row.predecessors.as_slice(),
+            None => &[],
         }
-        self.rows[number as usize - 1].predecessors.as_slice()
     }
 }

@@ -1,7 +1,7 @@
 // The rows searched.
 ghost use Rattle.std.specs.Prelude.{◌≡◌, ◌+◌, ◌<◌, true, ◌&&◌, [], length};
 ghost use Rattle.values.specs.declared.RowState.{RowState as State};
-ghost use Rattle.model.specs.Search.{has, any_below};
+ghost use Rattle.model.specs.Search.{any_below};
 ghost use Rattle.model.specs.Chart.{by_flow};
 ghost use Rattle.model.specs.Rows.{in_state, live, any_live};
 ghost use Rattle.model.specs.Calls.{lowest_row};
@@ -11,56 +11,33 @@ ghost use Rattle.rows.specs.Columns.{follows};
 use super::RowTable;
 use values::{Flow, RowState};
 
-// Whether a list has a number.
-pub(crate) fn contains(list: &[u16], number: u16) -> bool
-    ensures { result ≡ has number list.now }
-{
-    for x in list {
-        if number == *x {
-            return true;
-        }
-    }
-    false
-}
-
 impl RowTable {
     /// Whether a row is in that state.
     pub fn is_in(&self, state: RowState, number: u16) -> bool
         ensures { result ≡ in_state (rows_of self.now) state number }
     {
-        self.state(number).is(state)
+        self.state(number) == state
     }
 
     /// Whether a row is live: running or committed.
     pub fn is_live(&self, number: u16) -> bool
         ensures { result ≡ live ((rows_of self.now).state number) }
     {
-        let state = self.state(number);
-        state.is(RowState::Running) || state.is(RowState::Committed)
+        matches!(self.state(number), RowState::Running | RowState::Committed)
     }
 
     /// Whether any row is live.
     pub fn any_live(&self) -> bool
         ensures { result ≡ any_live (rows_of self.now) }
     {
-        for number in 0..self.len() + 1 {
-            if self.is_live(number) {
-                return true;
-            }
-        }
-        false
+        (0..self.len() + 1).any(|number| self.is_live(number))
     }
 
     /// The lowest row in that state.
     pub fn lowest(&self, state: RowState) -> Option<u16>
         ensures { result ≡ lowest_row (rows_of self.now) (in_state (rows_of self.now) state) }
     {
-        for number in 0..self.len() + 1 {
-            if self.is_in(state, number) {
-                return Some(number);
-            }
-        }
-        None
+        (0..self.len() + 1).find(|&number| self.is_in(state, number))
     }
 
     // Whether row `later` is live, follows row `earlier` by one arrow, and uses its exit up for a row of the step.
@@ -68,7 +45,7 @@ impl RowTable {
         ensures { result ≡ follows (rows_of self.now) exit step earlier later }
     {
         self.is_live(later)
-            && contains(self.predecessors(later), earlier)
+            && self.predecessors(later).contains(&earlier)
             && match exit {
                 Flow::One => true,
                 Flow::All => self.step(later) == step,
@@ -81,12 +58,7 @@ impl RowTable {
             (follows (rows_of self.now) exit step number) }
     {
         // a row has a higher number than its predecessors
-        let first = number.min(self.len()) + 1;
-        for later in first..self.len() + 1 {
-            if self.follows(exit, step, number, later) {
-                return true;
-            }
-        }
-        false
+        self.above(number)
+            .any(|later| self.follows(exit, step, number, later))
     }
 }

@@ -1,34 +1,15 @@
 // A table made, and a row written or added.
-ghost use Rattle.std.specs.Prelude.{◌≡◌, ◌<◌, ◌≤◌, cond, not, ◌&&◌, length, IfOk, vec_len, nat_le};
+ghost use Rattle.std.specs.Prelude.{◌≡◌, cond, is_ok, IfOk};
 ghost use Rattle.values.specs.declared.RowState.TheVariants.{Absent};
-ghost use Rattle.model.specs.Search.{any, has};
 ghost use Rattle.model.specs.Rows.{no_rows, in_state, marked, added};
 ghost use Rattle.rows.specs.Columns.{fits};
 ghost use Rattle.rows.specs.Tables.{rows_of, rolled_of};
 
-use super::{MOST_ROWS, RowTable};
-use crate::row::{Predecessors, Row};
+use super::{MOST_ROWS, RowTable, Unfit};
+use crate::row::Row;
+use arrayvec::ArrayVec;
 use std::alloc::{AllocError, Global};
 use values::{Entry, RowState};
-
-// Whether a number is one of so many rows.
-fn is_row(number: u16, count: u16) -> bool
-    ensures { result ≡ (nat_le 1 number && nat_le number count) }
-{
-    1 <= number && number <= count
-}
-
-// Whether a number of the list is not one of the rows.
-fn any_outside(list: &[u16], count: u16) -> bool
-    ensures { result ≡ any (λ x. not (nat_le 1 x && nat_le x count)) list.now }
-{
-    for x in list {
-        if !is_row(*x, count) {
-            return true;
-        }
-    }
-    false
-}
 
 impl RowTable {
     /// A table without rows. It takes the memory for all its rows now.
@@ -47,7 +28,7 @@ impl RowTable {
             (marked (rows_of self.old) number to) }
         ensures rolled { rolled_of self.new ≡ rolled_of self.old }
     {
-        if self.state(number).is(RowState::Absent) {
+        if self.is_in(RowState::Absent, number) {
             return;
         }
         self.rows[number as usize - 1].state = to;
@@ -59,27 +40,32 @@ impl RowTable {
     {
         self.rows.len() < MOST_ROWS
             && predecessors.len() <= 8
-            && !any_outside(predecessors, self.len())
+            && predecessors
+                .iter()
+                .all(|row| (1..=self.len()).contains(row))
     }
 
-    /// Adds a running row, and says whether it could be added; nothing changes where it could not.
-    pub fn push(&mut self, step: u16, predecessors: &[u16], entry: Entry) -> bool
-        ensures fits { result ≡ fits (rows_of self.old) predecessors.now }
+    /// Adds a running row; nothing changes where it does not fit.
+    pub fn push(&mut self, step: u16, predecessors: &[u16], entry: Entry) -> Result<(), Unfit>
+        ensures fits { is_ok result ≡ fits (rows_of self.old) predecessors.now }
         ensures rows { rows_of self.new
-            ≡ cond result (added (rows_of self.old) step predecessors.now entry)
+            ≡ cond (is_ok result) (added (rows_of self.old) step predecessors.now entry)
             (rows_of self.old) }
         ensures rolled { rolled_of self.new ≡ rolled_of self.old }
     {
         if !self.fits(predecessors) {
-            return false;
+            return Err(Unfit);
         }
+        let Ok(predecessors) = ArrayVec::try_from(predecessors) else {
+            return Err(Unfit);
+        };
         self.rows.push_reserved(Row {
             step,
-            predecessors: Predecessors::new(predecessors),
+            predecessors,
             entry,
             state: RowState::Running,
             rolled: 0,
         });
-        true
+        Ok(())
     }
 }

@@ -1,19 +1,18 @@
-use Rattle.std.proofs.Common.{◌≡◌, ℕ, ◌+◌, true, List, take, Option, sym, subst}
-use Rattle.std.proofs.lemmas.List.{take_all}
+use Rattle.std.proofs.Common.{◌≡◌, ℕ, true, ltb, Option, rules, tests, sym, ◌∙◌, subst}
+use Rattle.std.proofs.lemmas.Iterator.{YieldsList-from_slice}
+use Rattle.std.proofs.lemmas.Iterator.Adapters.{option_map_id}
+use Rattle.std.proofs.lemmas.Iterator.Consumers.{YieldsList-from_copied, YieldsList-from_filter, min_from_yields_List}
 use Rattle.graph.specs.Reach.{Least}
 use Rattle.model.specs.Search.{has}
-use Rattle.rows.proofs.Leasts.{least_next}
+use Rattle.rows.proofs.Leasts.{least_above}
 use Rattle.rows.proofs.graphs.least_above.Goals as goal
-
-pub loop-x-preserved : goal.loop-x-preserved
-loop-x-preserved c =
-    let xs = c.args.list.now in
-    let i = c.loop-x.x-index in
-    let Next : Option ℕ → Type 0 = Least (λ k. has k (take (i + 1) xs) ≡ true) c.args.after in
-    subst Next (sym c.least_with-least.ensures)
-    (least_next xs i c.args.after c.loop-x.least c.loop-x-test.true c.loop-x.invariant)
 
 pub returns : goal.returns
 returns c =
-    let All : List ℕ → Type 0 = λ xs. Least (λ k. has k xs ≡ true) c.args.after c.loop-x.least in
-    subst All (take_all c.loop-x.x-index c.args.list.now c.loop-x-test.false) c.loop-x.invariant
+    let xs = c.args.list.now in
+    let after = c.args.after in
+    let is = min_from_yields_List _ _ c.min.ensures.ran
+    (YieldsList-from_filter _ (ltb after) (YieldsList-from_copied (YieldsList-from_slice xs cc))
+    c.filter.ensures.closure (λ x b q k. search (rules, tests))) in
+    let P : Option ℕ → Type 0 = Least (λ k. has k xs ≡ true) after in
+    subst P (sym (sym (option_map_id c.min.result) ∙ is)) (least_above xs after)

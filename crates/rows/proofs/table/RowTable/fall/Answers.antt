@@ -1,30 +1,48 @@
-use Rattle.std.proofs.Common.{◌≡◌, ℕ, Bool, length, sym, ap, ◌∙◌, arith}
+use Rattle.std.proofs.Common.{◌≡◌, ℕ, Bool, List, length, sym, ap, ◌∙◌, subst}
+use Rattle.std.proofs.lemmas.List.{with_items_is}
 use Rattle.graph.specs.Column.{marked}
 use Rattle.graph.specs.Held.{held}
 use Rattle.rows.specs.declared.row.Row.{Row}
-use Rattle.rows.proofs.Falls.{columns_fell, lower_fell, positive_fell}
+use Rattle.model.specs.Sheets.{Lower}
+use Rattle.rows.specs.Columns.{columns, preds_of, row_at, Positive}
+use Rattle.rows.proofs.Falls.{fell, columns_fell, lower_fell, positive_fell}
 use Rattle.rows.proofs.table.RowTable.fall.Goals as goal
 
 pub invariant_of-self : goal.invariant_of-self
 invariant_of-self c =
     let t = c.args.self.now in
+    let rows = t.rows.items in
     let new = c.fall_all.new.rows in
     let mark : ℕ → Bool = marked (held c.args.marks.now) in
-    let long : length new.items ≡ length t.rows.items = sym new.ok.0 ∙ c.fall_all.ensures.len ∙ t.rows.ok.0 in
+    let steps = c.args.steps.now in
+    let number = c.args.number in
+    let long : length new ≡ length rows = c.fall_all.ensures.len ∙ ap length c.deref_mut.ensures.value in
+    let falls : row_at new ≡ fell steps mark number rows =
+    c.fall_all.ensures.rows ∙ ap {B = ℕ → Row} (fell steps mark number) c.deref_mut.ensures.value in
+    let is = with_items_is t.rows new (long ∙ sym t.rows.ok.0) in
     record {
-      lower = lower_fell c.args.steps.now mark c.args.number t.rows.items new.items long c.fall_all.ensures.rows t.lower;
-      positive = positive_fell c.args.steps.now mark c.args.number t.rows.items new.items long c.fall_all.ensures.rows t.positive;
-      few = omega (arith, c.fall_all.ensures.len, t.few);
-      reserved = omega (arith, c.fall_all.ensures.capacity, t.reserved);
+      lower = subst (λ (xs : List Row). Lower (preds_of xs)) (sym is)
+          (lower_fell steps mark number rows new long falls t.lower);
+      positive = subst (λ (xs : List Row). Positive (preds_of xs)) (sym is)
+          (positive_fell steps mark number rows new long falls t.positive);
+      few = t.few;
+      reserved = t.reserved;
     }
 
 pub returns : goal.returns
 returns c =
     let t = c.args.self.now in
+    let rows = t.rows.items in
     let new = c.fall_all.new.rows in
     let mark : ℕ → Bool = marked (held c.args.marks.now) in
-    let long : length new.items ≡ length t.rows.items = sym new.ok.0 ∙ c.fall_all.ensures.len ∙ t.rows.ok.0 in
+    let steps = c.args.steps.now in
+    let number = c.args.number in
+    let long : length new ≡ length rows = c.fall_all.ensures.len ∙ ap length c.deref_mut.ensures.value in
+    let falls : row_at new ≡ fell steps mark number rows =
+    c.fall_all.ensures.rows ∙ ap {B = ℕ → Row} (fell steps mark number) c.deref_mut.ensures.value in
+    let is = with_items_is t.rows new (long ∙ sym t.rows.ok.0) in
     record {
-      rows = columns_fell c.args.steps.now mark c.args.number t.rows.items new.items long c.fall_all.ensures.rows;
-      rolled = ap {B = ℕ → ℕ} (λ (f : ℕ → Row) k. (f k).rolled) c.fall_all.ensures.rows;
+      rows = ap columns is ∙ columns_fell steps mark number rows new long falls;
+      rolled = ap {B = ℕ → ℕ} (λ (xs : List Row) k. (row_at xs k).rolled) is
+          ∙ ap {B = ℕ → ℕ} (λ (f : ℕ → Row) k. (f k).rolled) falls;
     }

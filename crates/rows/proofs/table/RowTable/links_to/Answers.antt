@@ -4,7 +4,6 @@ use Rattle.graph.specs.Held.{held}
 use Rattle.graph.specs.Reach.{Start, Explored}
 use Rattle.rows.specs.Arrows.{Drawn, back, passed_preds}
 use Rattle.rows.specs.Tables.{rows_of}
-use Rattle.rows.proofs.Aborts.{walk_keeps}
 use Rattle.rows.proofs.Links.{links_marked}
 use Rattle.rows.proofs.table.RowTable.links_to.Goals as goal
 
@@ -12,16 +11,15 @@ pub returns : goal.returns
 returns c =
     let t = c.args.self.now in
     let n = (rows_of t).count in
-    let before = held c.args.marks.now in
-    let xs = held c.reach.new.marks in
+    let before = held c.args.scratch.now.marks.now in
+    let xs = held c.walk.new.scratch.marks.now in
     let From : List ℕ → Type 0 = λ starts. Explored (Drawn n (back (passed_preds (rows_of t)))) (Start n starts) before xs in
-    let done = c.reach.ensures in
+    let done = c.walk.ensures in
     record {
       test = done.test;
-      marked = MatchResult-weaker c.reach.result done.explored
+      answer = MatchResult-weaker c.walk.result done.answer
           (λ _ e. links_marked (vec_items t.rows) t.lower t.positive c.args.row xs
-          (subst From c.predecessors.ensures e))
+          (subst From c.predecessors-starts.ensures.all e))
           (λ _ e. e);
-      kept = walk_keeps c.reach.result _ _ before xs c.args.line.now c.reach.new.line done.explored;
-      same = done.same;
+      loans = done.loans;
     }

@@ -1,13 +1,11 @@
 -- One row added: it follows only rows that are there.
-use Rattle.std.proofs.Common.{◌≡◌, ℕ, ◌<◌, ◌≤◌, true, false, not, ◌&&◌, ltb, leb, List, length, take, sym, ap, ◌∙◌, subst, inl, inr, arith}
-use Rattle.std.proofs.lemmas.List.{take_all}
+use Rattle.std.proofs.Common.{◌≡◌, ℕ, ◌<◌, ◌≤◌, true, false, not, ◌&&◌, ltb, leb, List, length, sym, ap, ◌∙◌, subst, inl, inr, rules, tests, arith}
 use Rattle.std.proofs.lemmas.Bool.{and_parts, leb-true, ltb-true, both_ways, not-true, cases_Bool, not_from_false}
 use Rattle.model.specs.Search.{any, has}
 use Rattle.model.proofs.Basics.{any_in}
 use Rattle.rows.specs.declared.row.Row.{Row}
-use Rattle.rows.specs.declared.row.Predecessors.{Predecessors}
 use Rattle.model.specs.Sheets.{Lower}
-use Rattle.rows.specs.Columns.{fits, columns, listed, preds_of, row_at, Positive}
+use Rattle.rows.specs.Columns.{fits, columns, preds_of, row_at, Positive}
 use Rattle.rows.proofs.Columns.{columns_added, rolled_added, lower_added, positive_added}
 use Rattle.rows.proofs.table.RowTable.push.Goals as goal
 
@@ -37,10 +35,6 @@ fitting rows fs h =
       inside = λ x m. row_number x (length rows) (is_inside x m (not-true _ e));
     }
 
--- the list kept is the list given, of at most eight
-all_kept : (fs : List ℕ) (ps : Predecessors) → length fs ≤ 8 → listed ps ≡ take 8 fs → listed ps ≡ fs
-all_kept fs ps few e = e ∙ take_all 8 fs few
-
 pub invariant_of-self : goal.invariant_of-self
 invariant_of-self c =
     let s = c.args.self.now in
@@ -48,12 +42,12 @@ invariant_of-self c =
     let fs = c.args.predecessors.now in
     let f = fitting rows fs (sym c.if-not-fits.ensures) in
     let p = c.push_reserved.ensures in
-    let e = all_kept fs c.new.result f.few c.new.ensures in
+    let e : c.in-Ok.predecessors.items ≡ fs = search (rules, tests) in
     record {
       lower = subst (λ (xs : List Row). Lower (preds_of xs)) (sym p.items)
-          (lower_added rows c.args.step c.new.result fs c.args.entry e s.lower (λ x m. (f.inside x m).1));
+          (lower_added rows c.args.step c.in-Ok.predecessors fs c.args.entry e s.lower (λ x m. (f.inside x m).1));
       positive = subst (λ (xs : List Row). Positive (preds_of xs)) (sym p.items)
-          (positive_added rows c.args.step c.new.result fs c.args.entry e s.positive (λ x m. (f.inside x m).0));
+          (positive_added rows c.args.step c.in-Ok.predecessors fs c.args.entry e s.positive (λ x m. (f.inside x m).0));
       few = omega (arith, p.len, f.place, s.rows.ok.0);
       reserved = omega (arith, p.capacity, s.reserved);
     }
@@ -66,10 +60,10 @@ returns c =
     let ok = sym c.if-not-fits.ensures in
     let f = fitting rows fs ok in
     let p = c.push_reserved.ensures in
-    let e = all_kept fs c.new.result f.few c.new.ensures in
+    let e : c.in-Ok.predecessors.items ≡ fs = search (rules, tests) in
     record {
       fits = sym ok;
-      rows = ap columns p.items ∙ columns_added rows c.args.step c.new.result fs c.args.entry e;
+      rows = ap columns p.items ∙ columns_added rows c.args.step c.in-Ok.predecessors fs c.args.entry e;
       rolled = ap {B = ℕ → ℕ} (λ (xs : List Row) k. (row_at xs k).rolled) p.items
-          ∙ rolled_added rows c.args.step c.new.result fs c.args.entry e;
+          ∙ rolled_added rows c.args.step c.in-Ok.predecessors fs c.args.entry e;
     }

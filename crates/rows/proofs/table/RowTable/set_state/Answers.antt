@@ -1,5 +1,5 @@
 -- One row's state written: it is a row, since it is not absent.
-use Rattle.std.proofs.Common.{◌≡◌, false, cond, sym, ap, ◌∙◌, arith}
+use Rattle.std.proofs.Common.{◌≡◌, false, cond, sym, ap, ◌∙◌}
 use Rattle.values.specs.Numbers.{same_state}
 use Rattle.values.specs.declared.RowState.TheVariants.{Absent}
 use Rattle.model.specs.Rows.{marked}
@@ -7,21 +7,12 @@ use Rattle.rows.specs.Columns.{row_at, columns}
 use Rattle.rows.proofs.Columns.{known_within, row_inside, columns_marked, rolled_marked, lower_marked, positive_marked}
 use Rattle.rows.proofs.table.RowTable.set_state.Goals as goal
 
-pub index_mut-requires : goal.index_mut-requires
-index_mut-requires c =
-    let rows = c.args.self.now.rows in
-    let here : same_state (row_at rows.items c.args.number).state Absent ≡ false =
-    ap (λ s. same_state s Absent) (sym c.state.ensures) ∙ sym c.if-is.ensures in
-    let w = known_within rows.items c.args.number here in
-    omega (arith, w.0, w.1, rows.ok.0)
-
 pub invariant_of-self : goal.invariant_of-self
 invariant_of-self c =
     let s = c.args.self.now in
     let rows = s.rows.items in
     let k = c.args.number in
-    let here : same_state (row_at rows k).state Absent ≡ false =
-    ap (λ s. same_state s Absent) (sym c.state.ensures) ∙ sym c.if-is.ensures in
+    let here : same_state (row_at rows k).state Absent ≡ false = sym c.if-is_in.ensures in
     let w = known_within rows k here in
     let is = row_inside rows k _ w.0 w.1 c.index_mut.ensures.value in
     record {
@@ -36,8 +27,7 @@ returns c =
     let s = c.args.self.now in
     let rows = s.rows.items in
     let k = c.args.number in
-    let here : same_state (row_at rows k).state Absent ≡ false =
-    ap (λ s. same_state s Absent) (sym c.state.ensures) ∙ sym c.if-is.ensures in
+    let here : same_state (row_at rows k).state Absent ≡ false = sym c.if-is_in.ensures in
     let w = known_within rows k here in
     let is = row_inside rows k _ w.0 w.1 c.index_mut.ensures.value in
     record {

@@ -4,10 +4,7 @@ use Rattle.rows.specs.Steps.{steps_only}
 use Rattle.rows.specs.Tables.{rows_of}
 use Rattle.rows.proofs.table.RowTable.uncut.Given as goal
 
--- those so far that are no savepoints stand at the front
 abbrev pub invariant-loop-w : goal.invariant-loop-w
 invariant-loop-w l =
-    (take l.count l.numbers
-    ≡ filter (λ w. not (is_savepoint (steps_only l.steps) (rows_of l.self) w)) (take l.w-index l.w-items))
-    × (l.count ≤ l.w-index)
-    × (length l.numbers ≡ 8)
+    (l.uncut.items ≡ filter (λ w. not (is_savepoint (steps_only l.steps) (rows_of l.self) w)) (take l.w-index l.w-items))
+    × (length l.uncut.items ≤ l.w-index)
