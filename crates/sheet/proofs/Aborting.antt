@@ -1,8 +1,7 @@
 -- Running rows dropped at the host, and the rows that fall. Assumes nothing.
-use Rattle.std.proofs.Common.{◌≡◌, ℕ, zero, suc, ◌+◌, Bool, true, false, cond, not, ◌&&◌, [], ◌∷◌, None, Option, sym, refl, ap, ◌∙◌, ap₂, add-one, arith}
-use Rattle.std.specs.Option.{option_or}
+use Rattle.std.proofs.Common.{◌≡◌, ℕ, ◌+◌, Bool, true, false, cond, not, ◌&&◌, [], ◌∷◌, None, Option, ap, ◌∙◌, ap₂, add-one, arith}
 use Rattle.std.proofs.lemmas.Bool.{le-ltb}
-use Rattle.values.specs.Checks.{first_fault, bad}
+use Rattle.values.specs.Checks.{first_fault, bad, after}
 use Rattle.values.specs.declared.Cause.TheVariants.{ShutHost, OtherState}
 use Rattle.values.specs.declared.Fault.{Fault}
 use Rattle.values.specs.declared.HostState.{HostState}
@@ -11,17 +10,11 @@ use Rattle.values.specs.declared.Layer.TheVariants.{Host as OfHost}
 use Rattle.values.specs.Numbers.{same_host_state}
 use Rattle.host.specs.Keys.{key_of, is_row, place_of}
 use Rattle.host.specs.View.{View, move_checks, moved}
-use Rattle.model.specs.Search.{first_below}
 use Rattle.model.specs.Calls.{dropped_below}
 use Rattle.model.proofs.Hosts.{dropped_view}
 
--- a search whose test needs something that does not hold
-pub none_found : (n : ℕ) (p : ℕ → Bool) → first_below n (λ k. false && p k) ≡ None
-none_found zero p = refl
-none_found (suc n) p = ap (λ o. option_or o None) (none_found n p)
-
 -- rows from n on are at the host as they were
-pub still_there : (runs : ℕ → Bool) (n : ℕ) (v : View) → (dropped_below runs n v).state n ≡ v.state n
+still_there : (runs : ℕ → Bool) (n : ℕ) (v : View) → (dropped_below runs n v).state n ≡ v.state n
 still_there runs n v =
     ap (λ (x : View). x.state n) (dropped_view runs n v)
     ∙ ap (λ t. cond (t && runs n) Void (v.state n)) (le-ltb n n (omega arith))
@@ -38,13 +31,12 @@ pub still_droppable : (runs : ℕ → Bool) (n : ℕ) (v : View)
 unfolding checks_by
 still_droppable runs n v h = ap₂ (λ shut st. checks_by shut st n) (same_shut runs n v) (still_there runs n v) ∙ h
 
--- one row more
-pub dropped_one : (runs : ℕ → Bool) (n : ℕ) (v : View) → runs n ≡ true
-    → moved Void (dropped_below runs n v) (key_of n) ≡ dropped_below runs (n + 1) v
-dropped_one runs n v h =
-    rw add-one (sym (ap (λ t. cond t (moved Void (dropped_below runs n v) (key_of n)) (dropped_below runs n v)) h))
+-- one row more, which is dropped if it runs
+pub dropped_one : (runs : ℕ → Bool) (n : ℕ) (v x y : View) → first_fault (move_checks Open v (key_of n)) ≡ None → true ≡ runs n
+    → x ≡ dropped_below runs n v → y ≡ after (first_fault (move_checks Open x (key_of n))) x (moved Void x (key_of n))
+    → y ≡ dropped_below runs (n + 1) v
+dropped_one runs n v x y may h was is = let drops = still_droppable runs n v may in rw add-one (grind arith)
 
-pub dropped_none : (runs : ℕ → Bool) (n : ℕ) (v : View) → runs n ≡ false
-    → dropped_below runs n v ≡ dropped_below runs (n + 1) v
-dropped_none runs n v h =
-    rw add-one (sym (ap (λ t. cond t (moved Void (dropped_below runs n v) (key_of n)) (dropped_below runs n v)) h))
+pub dropped_none : (runs : ℕ → Bool) (n : ℕ) (v x : View) → false ≡ runs n → x ≡ dropped_below runs n v
+    → x ≡ dropped_below runs (n + 1) v
+dropped_none runs n v x h was = rw add-one (grind arith)

@@ -1,3 +1,4 @@
 pub mod Aborting
 pub mod Comings
+pub mod Searching
 pub mod Starting

@@ -2,7 +2,7 @@
 use values::{Entry, Mode, TicketNumber};
 
 /// The lengths of the memory that is lent to calls.
-#[derive(Clone, Copy, Drop)]
+#[derive(Clone, Copy, PartialEq, Eq, Debug, Drop)]
 pub struct Sizes {
     /// Bytes of the scratch column.
     pub column: usize,
@@ -17,7 +17,7 @@ pub struct Sizes {
 }
 
 /// What may happen in a competition: a call, other memory that is lent from now on, or a command for the host.
-#[derive(Drop)]
+#[derive(PartialEq, Eq, Debug, Drop)]
 pub enum Event<C> {
     Start {
         step: u16,

@@ -3,7 +3,6 @@
 
 mod charts;
 mod events;
-mod faults;
 mod memory;
 mod sheets;
 mod ticket;

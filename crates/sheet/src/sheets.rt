@@ -12,6 +12,7 @@ mod reads;
 mod starts;
 
 /// The sheet of one competition: the process that it follows, its rows, and where it stands.
+// no `Model`: its value can hold no functions, and the model's sheet has its rows as functions of their numbers
 #[derive(Drop)]
 pub struct Sheet {
     process: Process,

@@ -5,6 +5,7 @@ use values::TicketNumber;
 
 /// The right to end a rollback. Abort and resume give one; only finish and park end it, so it cannot be let go or used
 /// twice.
+#[derive(Debug)]
 pub struct Ticket {
     number: TicketNumber,
 }

@@ -6,9 +6,8 @@ ghost use Rattle.sheet.specs.Calls.{end_checks, Ends};
 ghost use Rattle.sheet.specs.SheetOf.{sheet_of};
 
 use super::Sheet;
-use crate::faults::fault;
 use host::{Host, row_key};
-use values::{Cause, Fault, Phase, RowState};
+use values::{Cause, Fault, Layer, Phase, RowState};
 
 impl Sheet {
     // Declines a call on a row that is not in the state that it wants.
@@ -16,7 +15,7 @@ impl Sheet {
         ensures { result ≡ answer (row_check (sheet_of self.now).rows state row) tt }
     {
         if !self.table.is_in(state, row) {
-            return Err(fault(Cause::NoSuch, row as usize));
+            return Err(Layer::Sheet.fault(Cause::NoSuch, usize::from(row)));
         }
         Ok(())
     }
