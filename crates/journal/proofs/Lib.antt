@@ -1,6 +1,6 @@
-pub mod Bytes
 pub mod Words
 pub mod Digits
 pub mod Hex
 pub mod Reading
 pub mod Records
+pub mod Steps

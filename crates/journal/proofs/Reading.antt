@@ -1,78 +1,79 @@
 -- A journal is read line by line: what is left of the text, and what was read, give the answer of the whole. Assumes nothing.
-use Rattle.std.proofs.Common.{◌≡◌, ℕ, ◌+◌, ◌-◌, ◌<◌, ◌≤◌, List, [], ◌∷◌, ◌++◌, length, get_or, take, drop, Result, sym, refl, ap, ◌∙◌, ap₂, arith}
-use Rattle.std.proofs.lemmas.List.{take_more, take_all, drop_all, get_or-drop, length-drop, length-take-le, at_drop_more}
-use Rattle.std.proofs.lemmas.Bool.{eq-eqb, ne_eqb}
+use Rattle.std.proofs.Common.{◌≡◌, ℕ, zero, suc, ◌+◌, ◌-◌, ◌<◌, min, true, false, List, [], ◌∷◌, ◌++◌, length, get_or, take, drop, Err, Result, sym, refl, ap, ◌∙◌, ap₂, append_assoc, arith, eqb}
+use Rattle.std.specs.List.{IsFirstMatchOrLen}
+use Rattle.std.proofs.lemmas.List.{take_all, drop_all, length-append}
+use Rattle.std.proofs.Math.Seq.{take-append_seam, get_or-append_seam}
+use Rattle.journal.specs.declared.ParseError.{ParseError}
+use Rattle.journal.specs.declared.ParseError.TheVariants as parse_error
 use Rattle.journal.specs.declared.Unreadable.{Unreadable}
-use Rattle.journal.specs.Text.{trimmed, lines_after}
-use Rattle.journal.specs.Settings.{and_then, at_line, after_line, completed, read_on, journal, Settings, Contents}
+use Rattle.journal.specs.Text.{trimmed, unless_empty, unended, lines_after, lines}
+use Rattle.journal.specs.Settings.{and_then, after_line, read_on, Parsed, Settings, Contents}
 
--- the next byte ends the line, or belongs to it
-feed : (line : List ℕ) (b : ℕ) (bs : List ℕ) → b ≡ 10 → lines_after line (b ∷ bs) ≡ trimmed line ∷ lines_after [] bs
-feed line b bs e = rw (eq-eqb b 10 e) refl
+-- what a last byte makes of a line
+module _ (line : List ℕ) (b : ℕ) where
+  last : get_or (line ++ b ∷ []) (length (line ++ b ∷ []) - 1) 0 ≡ b
+  last = let at : length (line ++ b ∷ []) - 1 ≡ length line = omega (arith, length-append line (b ∷ [])) in
+      ap (λ n. get_or (line ++ b ∷ []) n 0) at ∙ get_or-append_seam line b [] 0
 
-other : (line : List ℕ) (b : ℕ) (bs : List ℕ) → (b ≡ 10 → ⊥) → lines_after line (b ∷ bs) ≡ lines_after (line ++ b ∷ []) bs
-other line b bs e = rw (ne_eqb b 10 e) refl
+  front : take (length (line ++ b ∷ []) - 1) (line ++ b ∷ []) ≡ line
+  front = let at : length (line ++ b ∷ []) - 1 ≡ length line = omega (arith, length-append line (b ∷ [])) in
+      ap (λ n. take n (line ++ b ∷ [])) at ∙ take-append_seam line (b ∷ [])
 
-last_line : (line : List ℕ) → 0 < length line → lines_after line [] ≡ line ∷ []
-last_line [] l = absurd (omega arith)
-last_line (b ∷ bs) l = refl
+  fed : eqb b 10 ≡ true → unended (line ++ b ∷ []) ≡ trimmed line
+  fed e = rw (last, e) (ap trimmed front)
 
--- what the text from byte `from` on says, where the bytes from there to i are the line so far
-abbrev pub Left : Settings → ℕ → List ℕ → ℕ → ℕ → Result Contents Unreadable
-Left s n text from i = read_on s n (lines_after (take (i - from) (drop from text)) (drop i text))
+  unfed : eqb b 10 ≡ false → unended (line ++ b ∷ []) ≡ line ++ b ∷ []
+  unfed e = rw (last, e) refl
 
-module _ (s : Settings) (n : ℕ) (text : List ℕ) (from i : ℕ) where
-  more : from ≤ i → i < length text → take (i - from) (drop from text) ++ get_or text i 0 ∷ [] ≡ take (i + 1 - from) (drop from text)
-  more l in' =
-      let here : i - from < length (drop from text) = omega (arith, length-drop from text) in
-      let at : from + (i - from) ≡ i = omega arith in
-      let next : i - from + 1 ≡ i + 1 - from = omega arith in
-      let byte : get_or text i 0 ≡ get_or (drop from text) (i - from) 0 = sym (get_or-drop from text (i - from) 0 ∙ ap (λ k. get_or text k 0) at) in
-      ap (λ b. take (i - from) (drop from text) ++ b ∷ []) byte ∙ sym (take_more (drop from text) (i - from) 0 here) ∙ ap (λ k. take k (drop from text)) next
+  one_left : unless_empty (line ++ b ∷ []) [] ≡ (line ++ b ∷ []) ∷ []
+  one_left = some line
+    where
+      some : (l : List ℕ) → unless_empty (l ++ b ∷ []) [] ≡ (l ++ b ∷ []) ∷ []
+      some [] = refl
+      some (a ∷ l) = refl
 
-  -- one byte more of the line
-  pub left_byte : from ≤ i → i < length text → (get_or text i 0 ≡ 10 → ⊥) → Left s n text from i ≡ Left s n text from (i + 1)
-  left_byte l in' no_feed =
-      at_drop_more (λ r. read_on s n (lines_after (take (i - from) (drop from text)) r)) text i 0 in'
-      ∙ ap (read_on s n) (other (take (i - from) (drop from text)) (get_or text i 0) (drop (i + 1) text) no_feed)
-      ∙ ap (λ l. read_on s n (lines_after l (drop (i + 1) text))) (more l in')
+-- the first line ends with the first line feed, or with the text
+cut : (line text : List ℕ) (i : ℕ) → 0 < length text → ((k : ℕ) → k < i → eqb (get_or text k 0) 10 ≡ false)
+    → (i < length text → eqb (get_or text i 0) 10 ≡ true) → lines_after line text ≡ unended (line ++ take (suc i) text) ∷ lines_after [] (drop (suc i) text)
+cut line [] i some before at = absurd (omega arith)
+cut line (b ∷ bs) zero some before at =
+    let e : eqb b 10 ≡ true = at some in
+    rw e (ap (λ l. l ∷ lines_after [] bs) (sym (fed line b e)))
+cut line (b ∷ []) (suc i) some before at =
+    let e : eqb b 10 ≡ false = before 0 (omega arith) in
+    rw e (one_left line b ∙ ap (λ l. l ∷ []) (sym (unfed line b e)))
+cut line (b ∷ c ∷ bs) (suc i) some before at =
+    let e : eqb b 10 ≡ false = before 0 (omega arith) in
+    let on = cut (line ++ b ∷ []) (c ∷ bs) i (omega arith) (λ k l. before (suc k) (omega arith)) (λ l. at (omega arith)) in
+    rw e (on ∙ ap (λ l. unended l ∷ lines_after [] (drop i bs)) (append_assoc line (b ∷ []) (c ∷ take i bs)))
 
-  -- a line feed ends the line
-  pub left_line : i < length text → get_or text i 0 ≡ 10
-      → Left s n text from i ≡ and_then (after_line n (trimmed (take (i - from) (drop from text))) s) (λ t. Left t (n + 1) text (i + 1) (i + 1))
-  left_line in' is_feed =
-      let start : 0 ≡ i + 1 - (i + 1) = omega arith in
-      let rest = drop (i + 1) text in
-      let this = after_line n (trimmed (take (i - from) (drop from text))) s in
-      let on : ℕ → Result Contents Unreadable = λ k. and_then this (λ t. read_on t (n + 1) (lines_after (take k rest) rest)) in
-      at_drop_more (λ r. read_on s n (lines_after (take (i - from) (drop from text)) r)) text i 0 in'
-      ∙ ap (read_on s n) (feed (take (i - from) (drop from text)) (get_or text i 0) (drop (i + 1) text) is_feed) ∙ ap on start
+-- of a text in two parts, the first is what its length says
+parts : (x later : List ℕ) (k : ℕ) → length x ≡ min k (length (x ++ later)) → (take k (x ++ later) ≡ x) × (drop k (x ++ later) ≡ later)
+parts [] [] k e = (take_all k [] (omega arith), drop_all k [] (omega arith))
+parts [] (r ∷ rs) zero e = (refl, refl)
+parts [] (r ∷ rs) (suc k) e = absurd (omega arith)
+parts (a ∷ x) later zero e = absurd (omega arith)
+parts (a ∷ x) later (suc k) e = let h = parts x later k (omega arith) in (ap (λ t. a ∷ t) h.0, h.1)
 
-  -- the text ends after a line feed, or in a line
-  pub left_none : length text ≤ i → length text ≤ from → Left s n text from i ≡ at_line n (completed s)
-  left_none l m =
-      let none : take (i - from) (drop from text) ≡ [] = ap (take (i - from)) (drop_all from text m) ∙ take_all (i - from) [] (omega arith) in
-      ap₂ (λ a r. read_on s n (lines_after a r)) none (drop_all i text l)
+-- what is cut off up to the first line feed is the first line
+first_line : (text x later : List ℕ) (i : ℕ) → text ≡ x ++ later → length x ≡ min (i + 1) (length text)
+    → IsFirstMatchOrLen (λ b. eqb b 10) text i → 0 < length text → lines text ≡ unended x ∷ lines later
+first_line text x later i whole long first some =
+    let same : length x ≡ min (suc i) (length (x ++ later)) = omega (arith, ap length whole) in
+    let split = parts x later (suc i) same in
+    let front : take (suc i) text ≡ x = ap (take (suc i)) whole ∙ split.0 in
+    let back : drop (suc i) text ≡ later = ap (drop (suc i)) whole ∙ split.1 in
+    cut [] text i some (λ k l. first.0 k 0 (omega arith) l) (λ l. first.1 l 0) ∙ ap₂ (λ t r. unended t ∷ lines_after [] r) front back
 
-  pub left_some : length text ≤ i → i ≤ length text → from < length text
-      → Left s n text from i ≡ and_then (after_line n (take (length text - from) (drop from text)) s) (λ t. at_line (n + 1) (completed t))
-  left_some l m h =
-      let rest = take (length text - from) (drop from text) in
-      let end : i ≡ length text = omega arith in
-      let long : 0 < length rest = omega (arith, length-take-le (length text - from) (drop from text) (omega (arith, length-drop from text))) in
-      ap₂ (λ k r. read_on s n (lines_after (take (k - from) (drop from text)) r)) end (drop_all i text l) ∙ ap (read_on s n) (last_line rest long)
+-- after that line, what is left still gives the answer of the whole
+pub next_line : (s : Settings) (n : ℕ) (text x later line : List ℕ) (i : ℕ) {whole : Result Contents Unreadable} → text ≡ x ++ later → length x ≡ min (i + 1) (length text)
+    → IsFirstMatchOrLen (λ b. eqb b 10) text i → 0 < length text → line ≡ unended x → read_on s n (lines text) ≡ whole
+    → and_then (after_line n line s) (λ t. read_on t (n + 1) (lines later)) ≡ whole
+next_line s n text x later line i cuts long first some is h =
+    ap (λ y. and_then (after_line n y s) (λ t. read_on t (n + 1) (lines later))) is ∙ ap (read_on s n) (sym (first_line text x later i cuts long first some)) ∙ h
 
-module _ (s : Settings) (n : ℕ) (text : List ℕ) (from i : ℕ) {line : List ℕ} {r : Result Settings Unreadable} where
-  -- after a line that a line feed ends, what is left still gives the answer of the whole
-  pub line_next : i < length text → get_or text i 0 ≡ 10 → line ≡ trimmed (take (i - from) (drop from text)) → after_line n line s ≡ r
-      → Left s n text from i ≡ journal text → and_then r (λ t. Left t (n + 1) text (i + 1) (i + 1)) ≡ journal text
-  line_next in' is_feed line_is read whole =
-      let on : Result Settings Unreadable → Result Contents Unreadable = λ r. and_then r (λ t. Left t (n + 1) text (i + 1) (i + 1)) in
-      ap on (sym read) ∙ ap (λ l. on (after_line n l s)) line_is ∙ sym (left_line s n text from i in' is_feed) ∙ whole
-
-  -- and after a last line that none ends
-  pub line_last : length text ≤ i → i ≤ length text → from < length text → line ≡ take (length text - from) (drop from text) → after_line n line s ≡ r
-      → Left s n text from i ≡ journal text → and_then r (λ t. at_line (n + 1) (completed t)) ≡ journal text
-  line_last l m h line_is read whole =
-      let on : Result Settings Unreadable → Result Contents Unreadable = λ r. and_then r (λ t. at_line (n + 1) (completed t)) in
-      ap on (sym read) ∙ ap (λ l. on (after_line n l s)) line_is ∙ sym (left_some s n text from i l m h) ∙ whole
+-- what refuses a line refuses the whole
+pub refused : {A A' B B' : Type 0} (e : ParseError) (view : A → B) (view' : A' → B') (a : Result B Unreadable) (k : B → Result B' Unreadable) (whole : Result B' Unreadable)
+    → Parsed (Err e) view a → and_then a k ≡ whole → Parsed (Err e) view' whole
+refused (parse_error.Unreadable u) view view' a k whole h is = sym is ∙ ap (λ r. and_then r k) h
+refused (parse_error.Memory m) view view' a k whole h is = tt

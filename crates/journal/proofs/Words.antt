@@ -1,19 +1,18 @@
 -- Words are cut off a line's front. Assumes nothing.
-use Rattle.std.proofs.Common.{◌≡◌, ℕ, ◌<◌, Bool, true, false, List, [], ◌∷◌, ◌++◌, length, take, drop, sym, refl, ap, ◌∙◌, subst, ap₂, append_assoc, append-nil, one-add, arith}
-use Rattle.std.specs.List.{prefix_len}
-use Rattle.std.proofs.lemmas.List.Sums.{prefix_len-le-length}
-use Rattle.std.proofs.lemmas.List.{length-take-le}
-use Rattle.journal.specs.Text.{blank, in_class, unless_empty, words_after, words}
-use Rattle.journal.specs.declared.text.Class.TheVariants.{Blank, Solid}
+use Rattle.std.proofs.Common.{◌≡◌, ℕ, ◌-◌, ◌<◌, ◌≤◌, Bool, true, false, not, List, [], ◌∷◌, ◌++◌, length, get_or, take, drop, Some, None, sym, refl, ap, ◌∙◌, subst, append_assoc, append-nil, one-add, arith}
+use Rattle.std.specs.List.{prefix_len, position}
+use Rattle.std.proofs.lemmas.List.{take_all, drop_all, length-drop}
+use Rattle.std.proofs.lemmas.Bool.Decides.{nat_tests}
+use Rattle.journal.specs.Text.{blank, unless_empty, words_after, words}
 
 abbrev blanks : List ℕ → ℕ
-blanks bs = prefix_len (in_class Blank) bs
+blanks bs = prefix_len (λ b. not (not (blank b))) bs
 
 abbrev solids : List ℕ → ℕ
-solids bs = prefix_len (in_class Solid) bs
+solids bs = prefix_len (λ b. not (blank b)) bs
 
 -- blanks at the front make no word
-pub skip_blanks : (bs : List ℕ) → words bs ≡ words (drop (blanks bs) bs)
+skip_blanks : (bs : List ℕ) → words bs ≡ words (drop (blanks bs) bs)
 skip_blanks [] = refl
 skip_blanks (b ∷ bs) = step (blank b) refl (skip_blanks bs)
   where
@@ -22,7 +21,7 @@ skip_blanks (b ∷ bs) = step (blank b) refl (skip_blanks bs)
     step false e h = rw e (rw e refl)
 
 -- the bytes up to a blank are the rest of the word
-pub cut_word : (word bs : List ℕ) → words_after word bs ≡ unless_empty (word ++ take (solids bs) bs) (words (drop (solids bs) bs))
+cut_word : (word bs : List ℕ) → words_after word bs ≡ unless_empty (word ++ take (solids bs) bs) (words (drop (solids bs) bs))
 cut_word word [] = ap (λ w. unless_empty w []) (sym (append-nil word))
 cut_word word (b ∷ bs) = step (blank b) refl (cut_word (word ++ b ∷ []) bs)
   where
@@ -31,46 +30,59 @@ cut_word word (b ∷ bs) = step (blank b) refl (cut_word (word ++ b ∷ []) bs)
     step true e h = rw (e, append-nil) (rw e refl)
     step false e h = rw (e, one-add) (rw append_assoc at h)
 
--- where no word follows the blanks, nothing does
-none_left : (bs : List ℕ) → solids (drop (blanks bs) bs) ≡ 0 → drop (blanks bs) bs ≡ []
-none_left [] h = refl
-none_left (b ∷ bs) h = step (blank b) refl (none_left bs) h
+-- what follows the blanks, if anything, begins with a word
+solid_next : (bs : List ℕ) → 0 < length (drop (blanks bs) bs) → 0 < solids (drop (blanks bs) bs)
+solid_next [] l = absurd (omega arith)
+solid_next (b ∷ bs) l = step (blank b) refl (solid_next bs) l
   where
-    step : (t : Bool) → blank b ≡ t → (solids (drop (blanks bs) bs) ≡ 0 → drop (blanks bs) bs ≡ [])
-        → solids (drop (blanks (b ∷ bs)) (b ∷ bs)) ≡ 0 → drop (blanks (b ∷ bs)) (b ∷ bs) ≡ []
-    step true e f h = rw (e, one-add) (f (rw (e, one-add) at h))
-    step false e f h = absurd (omega (arith, rw e at (rw e at h)))
+    step : (t : Bool) → blank b ≡ t → (0 < length (drop (blanks bs) bs) → 0 < solids (drop (blanks bs) bs))
+        → 0 < length (drop (blanks (b ∷ bs)) (b ∷ bs)) → 0 < solids (drop (blanks (b ∷ bs)) (b ∷ bs))
+    step true e f l = rw (e, one-add) (f (rw (e, one-add) at l))
+    step false e f l = rw e (rw e (omega arith))
 
--- the cuts that `split_word` makes: m blanks are passed over, and n bytes are the word
-pub record Cut (line after word rest : List ℕ) (m n : ℕ) : Type 0 where
-  pub m_is : m ≡ blanks line
-  pub after_is : after ≡ drop m line
-  pub n_is : n ≡ solids after
-  pub word_is : word ≡ take n after
-  pub rest_is : rest ≡ drop n after
+-- where no word begins, there is none
+pub no_word : (line : List ℕ) → None ≡ position (λ b. not (blank b)) line → words line ≡ []
+no_word line none =
+    let past : length line ≤ blanks line = grind (arith, nat_tests) in
+    skip_blanks line ∙ ap words (drop_all (blanks line) line past)
 
-module _ {line after word rest : List ℕ} {m n : ℕ} (c : Cut line after word rest m n) where
-  skipped : after ≡ drop (blanks line) line
-  skipped = c.after_is ∙ ap (λ k. drop k line) c.m_is
+module _ (line : List ℕ) (m : ℕ) (found : Some m ≡ position (λ b. not (blank b)) line) where
+  begins : m ≡ blanks line
+  begins = grind (arith, nat_tests)
 
-  front : word ≡ take (solids after) after
-  front = c.word_is ∙ ap (λ k. take k after) c.n_is
+  within : m < length line
+  within = grind (arith, nat_tests)
 
-  back : rest ≡ drop (solids after) after
-  back = c.rest_is ∙ ap (λ k. drop k after) c.n_is
-
-  whole : words line ≡ unless_empty word (words rest)
-  whole = skip_blanks line ∙ ap words (sym skipped) ∙ cut_word [] after ∙ ap₂ (λ w r. unless_empty w (words r)) (sym front) (sym back)
-
-  pub no_word : length word ≡ 0 → words line ≡ []
-  no_word h =
-      let within = prefix_len-le-length (in_class Solid) after in
-      let none : solids after ≡ 0 = sym (length-take-le (solids after) after within) ∙ ap length (sym front) ∙ h in
-      skip_blanks line ∙ ap words (none_left line (subst (λ l. solids l ≡ 0) skipped none))
-
-  pub first_word : 0 < length word → words line ≡ word ∷ words rest
-  first_word h = whole ∙ some word h
+  -- the first word, from where it begins to the next blank
+  pub first_word : (after : List ℕ) → after ≡ take (length line - m) (drop m line) → words line ≡ take (solids after) after ∷ words (drop (solids after) after)
+  first_word after is =
+      let all : after ≡ drop m line = is ∙ take_all (length line - m) (drop m line) (omega (arith, length-drop m line)) in
+      let from : after ≡ drop (blanks line) line = all ∙ ap (λ k. drop k line) begins in
+      let long : 0 < length after = omega (arith, ap length all, length-drop m line, within) in
+      let some : 0 < solids after = subst (λ l. 0 < solids l) (sym from) (solid_next line (subst (λ l. 0 < length l) from long)) in
+      skip_blanks line ∙ ap words (sym from) ∙ cut_word [] after ∙ full after some
     where
-      some : (w : List ℕ) → 0 < length w → unless_empty w (words rest) ≡ w ∷ words rest
-      some [] l = absurd (omega arith)
-      some (b ∷ bs) l = refl
+      full : (bs : List ℕ) → 0 < solids bs → unless_empty (take (solids bs) bs) (words (drop (solids bs) bs)) ≡ take (solids bs) bs ∷ words (drop (solids bs) bs)
+      full [] l = absurd (omega arith)
+      full (b ∷ bs) l = step (blank b) refl l
+        where
+          step : (t : Bool) → blank b ≡ t → 0 < solids (b ∷ bs)
+              → unless_empty (take (solids (b ∷ bs)) (b ∷ bs)) (words (drop (solids (b ∷ bs)) (b ∷ bs))) ≡ take (solids (b ∷ bs)) (b ∷ bs) ∷ words (drop (solids (b ∷ bs)) (b ∷ bs))
+          step true e l = absurd (omega (arith, rw e at l))
+          step false e l = rw (e, one-add) refl
+
+-- a word by its bytes
+pub six_bytes : (w : List ℕ) → length w ≡ 6 → w ≡ get_or w 0 0 ∷ get_or w 1 0 ∷ get_or w 2 0 ∷ get_or w 3 0 ∷ get_or w 4 0 ∷ get_or w 5 0 ∷ []
+six_bytes (a ∷ b ∷ c ∷ d ∷ e ∷ f ∷ []) l = refl
+six_bytes [] l = absurd (omega arith)
+six_bytes (a ∷ []) l = absurd (omega arith)
+six_bytes (a ∷ b ∷ []) l = absurd (omega arith)
+six_bytes (a ∷ b ∷ c ∷ []) l = absurd (omega arith)
+six_bytes (a ∷ b ∷ c ∷ d ∷ []) l = absurd (omega arith)
+six_bytes (a ∷ b ∷ c ∷ d ∷ e ∷ []) l = absurd (omega arith)
+six_bytes (a ∷ b ∷ c ∷ d ∷ e ∷ f ∷ g ∷ w) l = absurd (omega arith)
+
+pub seven_bytes : (w : List ℕ) → length w ≡ 7
+    → w ≡ get_or w 0 0 ∷ get_or w 1 0 ∷ get_or w 2 0 ∷ get_or w 3 0 ∷ get_or w 4 0 ∷ get_or w 5 0 ∷ get_or w 6 0 ∷ []
+seven_bytes [] l = absurd (omega arith)
+seven_bytes (a ∷ w) l = ap (λ t. a ∷ t) (six_bytes w (omega arith))

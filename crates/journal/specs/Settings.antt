@@ -1,10 +1,14 @@
 -- What the lines of a journal say, and the order that they keep. Assumes nothing.
-use Rattle.std.specs.Prelude.{ℕ, ◌+◌, Bool, true, false, cond, not, List, [], ◌∷◌, is_some, Some, None, Ok, Err, vec_items, codes, Option, Result, Vec, ◌==◌, slice_index}
+use Rattle.std.specs.Prelude.{◌≡◌, ℕ, ◌+◌, Bool, true, false, cond, not, List, [], ◌∷◌, is_some, Some, None, Ok, Err, vec_items, codes, Option, Result, Vec, ◌==◌, slice_index}
+use Rattle.std.specs.Bool.{⊤}
+use Rattle.std.specs.List.{list_all}
 use Rattle.std.specs.Option.{option_map, unwrap_or}
 use Rattle.std.specs.Str.{bytes_eq}
 use Rattle.std.specs.declared.alloc.Global.{Global}
 use Rattle.journal.specs.declared.Wrong.{Wrong}
 use Rattle.journal.specs.declared.Wrong.TheVariants.{StrayByte, UnknownWord, MissingProcess, MissingSerial, Repeated}
+use Rattle.journal.specs.declared.ParseError.{ParseError}
+use Rattle.journal.specs.declared.ParseError.TheVariants as parse_error
 use Rattle.journal.specs.declared.Unreadable.{Unreadable}
 use Rattle.journal.specs.declared.Journal.{Journal}
 use Rattle.journal.specs.declared.settings.Draft.{Draft}
@@ -12,8 +16,7 @@ use Rattle.journal.specs.declared.settings.Keyword.{Keyword}
 use Rattle.journal.specs.declared.settings.Keyword.TheVariants.{Process, Serial, Scores, Ledger}
 use Rattle.journal.specs.declared.settings.Statement.{Statement}
 use Rattle.journal.specs.declared.settings.Statement.TheVariants as statement
-use Rattle.journal.specs.Text.{lines, words, every, in_class, only, number, paired, bytes_of_hex}
-use Rattle.journal.specs.declared.text.Class.TheVariants.{Allowed}
+use Rattle.journal.specs.Text.{lines, words, allowed, only, number, paired, bytes_of_hex}
 
 -- what one line says
 pub data Said : Type 0 where
@@ -25,11 +28,14 @@ pub data Said : Type 0 where
 
 -- the same of the code's statement, which has the process in hex digits
 abbrev pub meant : Statement → Said
-meant statement.Nothing = nothing
 meant (statement.Process digits) = process_is (paired digits.now)
 meant (statement.Serial n) = serial_is n
 meant (statement.Scores n) = scores_is n
 meant (statement.Ledger n) = ledger_is n
+
+abbrev pub meant_if : Option Statement → Said
+meant_if None = nothing
+meant_if (Some s) = meant s
 
 -- one after the other, up to the first that is refused
 abbrev pub and_then : {A B E : Type 0} → Result A E → (A → Result B E) → Result B E
@@ -61,7 +67,7 @@ by_words [] clean = Ok nothing
 by_words (w ∷ ws) clean = cond (slice_index w 0 == 35) (Ok nothing) (cond clean (spoken_if (keyword w) ws) (Err StrayByte))
 
 abbrev pub said : List ℕ → Result Said Wrong
-said line = by_words (words line) (every (in_class Allowed) line)
+said line = by_words (words line) (list_all allowed line)
 
 -- the settings that were read so far; the process with the number of its line
 pub record Settings : Type 0 where
@@ -153,6 +159,8 @@ contents j = record {
   ledger = j.ledger;
 }
 
-abbrev pub told : Result Journal Unreadable → Result Contents Unreadable
-told (Ok j) = Ok (contents j)
-told (Err u) = Err u
+-- unless memory ran out, r is the answer a, seen through `view`
+abbrev pub Parsed : {A B : Type 0} → Result A ParseError → (A → B) → Result B Unreadable → Type 0
+Parsed (Ok x) view a = a ≡ Ok (view x)
+Parsed (Err (parse_error.Unreadable u)) view a = a ≡ Err u
+Parsed (Err (parse_error.Memory e)) view a = ⊤

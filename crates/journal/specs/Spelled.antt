@@ -1,18 +1,19 @@
 -- What is printed: a line's fault in words, and the summary. Assumes nothing.
-use Rattle.std.specs.Prelude.{ℕ, ◌+◌, cond, List, [], ◌∷◌, ◌++◌, map, vec_items, string_bytes, codes, decimal}
+use Rattle.std.specs.Prelude.{ℕ, ◌+◌, cond, List, [], ◌∷◌, ◌++◌, map, Some, None, Option, vec_items, string_bytes, codes, decimal}
 use Rattle.values.specs.declared.Phase.{Phase}
 use Rattle.values.specs.declared.Phase.TheVariants.{Forward, Undoing, Parked}
+use Rattle.values.specs.declared.RowState.{RowState}
 use Rattle.values.specs.declared.RowState.TheVariants.{Absent, Running, Committed, Dropped, Due, Undone, PassedOver}
 use Rattle.values.specs.Texts.{spelled}
 use Rattle.journal.specs.declared.Wrong.{Wrong}
 use Rattle.journal.specs.declared.Wrong.TheVariants.{StrayByte, UnknownWord, TooFewWords, TooManyWords, NotANumber, NumberTooLarge}
 use Rattle.journal.specs.declared.Wrong.TheVariants.{NotHex, OddHex, MissingProcess, MissingSerial, Repeated}
+use Rattle.journal.specs.declared.ParseError.{ParseError}
+use Rattle.journal.specs.declared.ParseError.TheVariants as parse_error
 use Rattle.journal.specs.declared.Unreadable.{Unreadable}
 use Rattle.journal.specs.declared.answers.Answer.{Answer}
 use Rattle.journal.specs.declared.answers.Answer.TheVariants.{Process, Declined}
 use Rattle.journal.specs.declared.summary.RowCounts.{RowCounts}
-use Rattle.journal.specs.declared.summary.Standing.{Standing}
-use Rattle.journal.specs.declared.summary.Standing.TheVariants.{Private, Shown}
 use Rattle.journal.specs.declared.summary.StepLine.{StepLine}
 use Rattle.journal.specs.declared.summary.Summary.{Summary}
 use Rattle.journal.specs.Text.{printable}
@@ -34,6 +35,11 @@ wrong_text Repeated = codes "this setting was given before"
 abbrev pub report : Unreadable → List ℕ
 report u = codes "line " ++ (decimal u.line ++ (codes ": " ++ wrong_text u.wrong))
 
+-- why a journal was not read
+abbrev pub failure : ParseError → List ℕ
+failure (parse_error.Unreadable u) = report u
+failure (parse_error.Memory e) = codes "memory ran out"
+
 -- a question mark for each byte that is not printable
 abbrev pub shown_byte : ℕ → ℕ
 shown_byte b = cond (printable b) b 63
@@ -54,15 +60,16 @@ phase_text Forward = codes "forward"
 phase_text Undoing = codes "undoing"
 phase_text Parked = codes "parked"
 
-abbrev pub standing_text : Standing → List ℕ
-standing_text Private = codes "private"
-standing_text (Shown Absent) = codes "none"
-standing_text (Shown Running) = codes "running"
-standing_text (Shown Committed) = codes "committed"
-standing_text (Shown Dropped) = codes "dropped"
-standing_text (Shown Due) = codes "due"
-standing_text (Shown Undone) = codes "undone"
-standing_text (Shown PassedOver) = codes "passed over"
+-- nothing is told of a private step's rows
+abbrev pub standing_text : Option RowState → List ℕ
+standing_text None = codes "private"
+standing_text (Some Absent) = codes "none"
+standing_text (Some Running) = codes "running"
+standing_text (Some Committed) = codes "committed"
+standing_text (Some Dropped) = codes "dropped"
+standing_text (Some Due) = codes "due"
+standing_text (Some Undone) = codes "undone"
+standing_text (Some PassedOver) = codes "passed over"
 
 abbrev pub calls_text : ℕ → ℕ → ℕ → List ℕ
 calls_text calls accepted declined =
@@ -71,16 +78,17 @@ calls_text calls accepted declined =
 abbrev pub state_text : Phase → ℕ → List ℕ
 state_text phase rollbacks = codes "phase " ++ (phase_text phase ++ (codes " rollbacks " ++ (decimal rollbacks ++ codes "\n")))
 
-abbrev pub in_play_text : RowCounts → List ℕ
-in_play_text r = codes "rows " ++ (decimal r.all ++ (codes " running " ++ (decimal r.running ++ (codes " committed " ++ decimal r.committed))))
+abbrev pub rows_text : RowCounts → List ℕ
+rows_text r =
+    codes "rows " ++ (decimal r.all ++ (codes " running " ++ (decimal r.running ++ (codes " committed " ++ (decimal r.committed
+    ++ (codes " dropped " ++ (decimal r.dropped ++ (codes " due " ++ (decimal r.due ++ (codes " undone " ++ (decimal r.undone
+    ++ (codes " passed over " ++ decimal r.passed_over))))))))))))
 
-abbrev pub out_of_play_text : RowCounts → List ℕ
-out_of_play_text r =
-    codes " dropped " ++ (decimal r.dropped ++ (codes " due " ++ (decimal r.due ++ (codes " undone " ++ (decimal r.undone
-    ++ (codes " passed over " ++ (decimal r.passed_over ++ codes "\n")))))))
+abbrev pub line_text : StepLine → List ℕ
+line_text s = string_bytes s.name ++ (codes " " ++ standing_text s.standing)
 
 abbrev pub step_text : ℕ → StepLine → List ℕ
-step_text n s = codes "step " ++ (decimal n ++ (codes " " ++ (string_bytes s.name ++ (codes " " ++ (standing_text s.standing ++ codes "\n")))))
+step_text n s = codes "step " ++ (decimal n ++ (codes " " ++ (line_text s ++ codes "\n")))
 
 -- the step lines, numbered from n on
 abbrev pub steps_text : ℕ → List StepLine → List ℕ
@@ -90,4 +98,4 @@ steps_text n (s ∷ ss) = step_text n s ++ steps_text (n + 1) ss
 abbrev pub summary_text : Summary → List ℕ
 summary_text s =
     calls_text s.calls s.accepted s.declined ++ (state_text s.phase s.rollbacks
-    ++ (in_play_text s.rows ++ (out_of_play_text s.rows ++ steps_text 1 (vec_items s.steps))))
+    ++ (rows_text s.rows ++ (codes "\n" ++ steps_text 1 (vec_items s.steps))))

@@ -1,19 +1,13 @@
 -- The bytes of a journal: its lines, words, numbers and hex digits. Assumes nothing.
-use Rattle.std.specs.Prelude.{◌≡◌, ℕ, ◌+◌, ◌-◌, ◌*◌, ◌%◌, Bool, true, cond, not, ◌&&◌, ◌||◌, List, [], ◌∷◌, ◌++◌, length, take, is_some, Some, None, Ok, Err, fold, Option, Result, MatchResult, ◌==◌, nat_le, slice_index}
+use Rattle.std.specs.Prelude.{◌≡◌, ℕ, ◌+◌, ◌-◌, ◌*◌, ◌%◌, Bool, cond, ◌&&◌, ◌||◌, List, [], ◌∷◌, ◌++◌, length, take, is_some, Some, None, Ok, Err, fold, Option, Result, MatchResult, ◌==◌, nat_le, slice_index}
+use Rattle.std.specs.List.{list_all}
 use Rattle.std.specs.Option.{unwrap_or}
-use Rattle.journal.specs.declared.text.Class.{Class}
-use Rattle.journal.specs.declared.text.Class.TheVariants.{Blank, Solid, Allowed, Digit, Hex}
 use Rattle.journal.specs.declared.Wrong.{Wrong}
 use Rattle.journal.specs.declared.Wrong.TheVariants.{TooFewWords, TooManyWords, NotANumber, NumberTooLarge, NotHex, OddHex}
 
 -- r is the answer a, seen through `view`
 abbrev pub Told : {A B E : Type 0} → Result A E → (A → B) → Result B E → Type 0
 Told r view a = MatchResult r (λ x. a ≡ Ok (view x)) (λ e. a ≡ Err e)
-
--- each byte passes the test
-abbrev pub every : (ℕ → Bool) → List ℕ → Bool
-every p [] = true
-every p (b ∷ bs) = p b && every p bs
 
 -- a line or a word before others, unless it is empty
 abbrev pub unless_empty : List ℕ → List (List ℕ) → List (List ℕ)
@@ -23,6 +17,10 @@ unless_empty (b ∷ bs) ls = (b ∷ bs) ∷ ls
 -- without a carriage return at its end
 abbrev pub trimmed : List ℕ → List ℕ
 trimmed l = cond (slice_index l (length l - 1) == 13) (take (length l - 1) l) l
+
+-- a line as it is cut off a text: only one that ends with a line feed loses a carriage return before that
+abbrev pub unended : List ℕ → List ℕ
+unended l = cond (slice_index l (length l - 1) == 10) (trimmed (take (length l - 1) l)) l
 
 -- the lines of a text, where `line` was read of the first of them before
 abbrev pub lines_after : List ℕ → List ℕ → List (List ℕ)
@@ -48,13 +46,12 @@ abbrev pub nibble : ℕ → Option ℕ
 nibble b =
     cond (digit b) (Some (b - 48)) (cond (nat_le 97 b && nat_le b 102) (Some (b - 87)) (cond (nat_le 65 b && nat_le b 70) (Some (b - 55)) None))
 
--- the kinds of byte that a reader looks for
-abbrev pub in_class : Class → ℕ → Bool
-in_class Blank b = blank b
-in_class Solid b = not (blank b)
-in_class Allowed b = blank b || printable b
-in_class Digit b = digit b
-in_class Hex b = is_some (nibble b)
+abbrev pub hex : ℕ → Bool
+hex b = is_some (nibble b)
+
+-- what may stand in a line
+abbrev pub allowed : ℕ → Bool
+allowed b = blank b || printable b
 
 -- the words of a line, where `word` was read of the first of them before
 abbrev pub words_after : List ℕ → List ℕ → List (List ℕ)
@@ -78,7 +75,7 @@ value ds = fold (λ v b. 10 * v + (b - 48)) 0 ds
 abbrev pub number : ℕ → List ℕ → Result ℕ Wrong
 number limit [] = Err NotANumber
 number limit (d ∷ ds) =
-    cond (every (in_class Digit) (d ∷ ds)) (cond (nat_le (value (d ∷ ds)) limit) (Ok (value (d ∷ ds))) (Err NumberTooLarge)) (Err NotANumber)
+    cond (list_all digit (d ∷ ds)) (cond (nat_le (value (d ∷ ds)) limit) (Ok (value (d ∷ ds))) (Err NumberTooLarge)) (Err NotANumber)
 
 -- the byte that two digits say
 abbrev pub pair : ℕ → ℕ → ℕ
@@ -91,4 +88,4 @@ paired (a ∷ b ∷ ds) = pair a b ∷ paired ds
 
 -- the bytes that a word of hex digits says
 abbrev pub bytes_of_hex : List ℕ → Result (List ℕ) Wrong
-bytes_of_hex ds = cond (every (in_class Hex) ds) (cond (length ds % 2 == 0) (Ok (paired ds)) (Err OddHex)) (Err NotHex)
+bytes_of_hex ds = cond (list_all hex ds) (cond (length ds % 2 == 0) (Ok (paired ds)) (Err OddHex)) (Err NotHex)

@@ -1,12 +1,12 @@
 // The answers to the lines of a journal, and how they are printed.
-ghost use Rattle.std.specs.Prelude.{◌≡◌, IfOk, Some, string_bytes};
+ghost use Rattle.std.specs.Prelude.{Some};
 ghost use Rattle.journal.specs.Spelled.{answer_text, answer_line};
 
-use std::alloc::{AllocError, Global};
 use std::fmt;
 use values::Fault;
 
 /// What a line of the journal was answered.
+// No Result: it is printed, by a Display of its own.
 #[derive(Clone, Copy, Drop)]
 pub enum Answer {
     Process { steps: usize, arrows: usize },
@@ -24,14 +24,19 @@ impl fmt::Display for Answer {
     }
 }
 
-/// The line that is printed of an answer: the number of the journal's line, its first word, and the answer.
-pub(crate) fn answer_line(
-    heap: Global,
-    line: usize,
-    word: &str,
-    answer: &Answer,
-) -> Result<String, AllocError>
-    ensures { IfOk result (λ t. string_bytes t ≡ answer_line line word.now answer.now) }
-{
-    format!(in heap; "{line} {word}: {answer}\n")
+// The line that is printed of an answer: the number of the journal's line, its first word, and the answer.
+#[derive(Clone, Copy, Drop)]
+pub(crate) struct AnswerLine<'a> {
+    pub(crate) line: usize,
+    pub(crate) word: &'a str,
+    pub(crate) answer: Answer,
+}
+
+impl fmt::Display for AnswerLine<'_> {
+    ghost output = { λ x. Some (answer_line x.line x.word.now x.answer) };
+
+    fn fmt<W: fmt::Write>(&self, f: &mut fmt::Formatter<W>) -> fmt::Result {
+        let AnswerLine { line, word, answer } = *self;
+        write!(f, "{line} {word}: {answer}\n")
+    }
 }

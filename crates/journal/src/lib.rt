@@ -1,6 +1,9 @@
 // Journals: from the text of a journal to what is printed of it.
 #![tactic(auto)]
 
+ghost use Rattle.std.specs.Prelude.{◌≡◌};
+ghost use Rattle.journal.specs.declared.ParseError.TheVariants.{Unreadable as UnreadableLine, Memory};
+
 mod answers;
 mod names;
 mod outcomes;
@@ -14,7 +17,8 @@ pub use answers::Answer;
 pub use outcomes::Outcome;
 pub use replay::run;
 pub use settings::parse;
-pub use summary::{RowCounts, Standing, StepLine, Summary, printable_name};
+use std::alloc::AllocError;
+pub use summary::{RowCounts, StepLine, Summary, printable_name};
 
 /// What makes a line unreadable.
 #[derive(Clone, Copy, PartialEq, Eq, Debug, Drop)]
@@ -37,6 +41,29 @@ pub enum Wrong {
 pub struct Unreadable {
     pub line: usize,
     pub wrong: Wrong,
+}
+
+/// Why a journal was not read: a line that cannot be read, or no memory.
+#[derive(Clone, Copy, PartialEq, Eq, Debug, Drop)]
+pub enum ParseError {
+    Unreadable(Unreadable),
+    Memory(AllocError),
+}
+
+impl From<Unreadable> for ParseError {
+    ghost from_gives = { λ unreadable error. error ≡ UnreadableLine unreadable };
+
+    fn from(unreadable: Unreadable) -> ParseError {
+        ParseError::Unreadable(unreadable)
+    }
+}
+
+impl From<AllocError> for ParseError {
+    ghost from_gives = { λ e error. error ≡ Memory e };
+
+    fn from(error: AllocError) -> ParseError {
+        ParseError::Memory(error)
+    }
 }
 
 /// A journal: the stored process and the number of its line, and the settings.

@@ -4,7 +4,7 @@ ghost use Rattle.process.specs.Items.{record_of};
 ghost use Rattle.process.specs.Reading.{start};
 ghost use Rattle.journal.specs.Names.{line_shown, told_lines, blank_line, line_before, handed};
 
-use crate::summary::{Standing, StepLine, printable_name};
+use crate::summary::{StepLine, printable_name};
 use process::Reader;
 use process::parts::Item;
 use std::alloc::{AllocError, Global};
@@ -15,11 +15,7 @@ fn blank_line(heap: Global, private: bool, name: &[u8]) -> Result<StepLine, Allo
     ensures { IfOk result (λ x. line_shown x ≡ blank_line private name.now) }
 {
     let name = printable_name(heap, name)?;
-    let standing = if private {
-        Standing::Private
-    } else {
-        Standing::Shown(RowState::Absent)
-    };
+    let standing = (!private).then_some(RowState::Absent);
     Ok(StepLine { name, standing })
 }
 
@@ -44,13 +40,10 @@ pub(crate) fn blank_lines(
     let mut lines = Vec::new(heap);
     let mut reader = Reader::new(stored);
     for _i in 0..records {
-        match reader.next() {
-            Ok(next) => match next {
-                Some(item) => add_line(heap, &mut lines, item)?,
-                None => return Ok(lines),
-            },
-            Err(_) => return Ok(lines),
-        }
+        let Ok(Some(item)) = reader.next() else {
+            return Ok(lines);
+        };
+        add_line(heap, &mut lines, item)?;
     }
     Ok(lines)
 }

@@ -3,7 +3,7 @@ ghost use Rattle.std.specs.Prelude.{◌≡◌, IfOk, codes};
 ghost use Rattle.journal.specs.Outcomes.{shown, unread, declined, replayed, blank};
 
 use crate::Unreadable;
-use crate::answers::{Answer, answer_line};
+use crate::answers::{Answer, AnswerLine};
 use crate::summary::{RowCounts, StepLine, Summary};
 use std::alloc::{AllocError, Global};
 use values::{Fault, Phase};
@@ -33,7 +33,12 @@ impl Outcome {
     pub(crate) fn declined(heap: Global, line: usize, fault: Fault) -> Result<Outcome, AllocError>
         ensures { IfOk result (λ x. shown x ≡ declined line fault) }
     {
-        let printed = answer_line(heap, line, "process", &Answer::Declined(fault))?;
+        let process = AnswerLine {
+            line,
+            word: "process",
+            answer: Answer::Declined(fault),
+        };
+        let printed = process.to_string(heap)?;
         Ok(Outcome {
             printed,
             reported: String::new(heap),
@@ -51,8 +56,11 @@ impl Outcome {
         ensures { IfOk result (λ x. shown x ≡ replayed line arrows summary.now) }
     {
         let steps = summary.steps.len();
-        let process = answer_line(heap, line, "process", &Answer::Process { steps, arrows })?;
-        let summary = summary.render(heap)?;
+        let process = AnswerLine {
+            line,
+            word: "process",
+            answer: Answer::Process { steps, arrows },
+        };
         let printed = format!(in heap; "{process}{summary}")?;
         Ok(Outcome {
             printed,
@@ -66,22 +74,13 @@ impl Outcome {
 pub(crate) fn blank_summary(steps: Vec<StepLine>) -> Summary
     ensures { result ≡ blank steps }
 {
-    let rows = RowCounts {
-        all: 0,
-        running: 0,
-        committed: 0,
-        dropped: 0,
-        due: 0,
-        undone: 0,
-        passed_over: 0,
-    };
     Summary {
         calls: 0,
         accepted: 0,
         declined: 0,
         phase: Phase::Forward,
         rollbacks: 0,
-        rows,
+        rows: RowCounts::default(),
         steps,
     }
 }

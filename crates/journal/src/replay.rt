@@ -3,10 +3,10 @@ ghost use Rattle.std.specs.Prelude.{IfOk};
 ghost use Rattle.journal.specs.Run.{Ran, ProcessTold};
 ghost use Rattle.journal.specs.Settings.{journal};
 
-use crate::Journal;
 use crate::names::blank_lines;
 use crate::outcomes::{Outcome, blank_summary};
 use crate::settings::parse;
+use crate::{Journal, ParseError};
 use process::tables::Tables;
 use std::alloc::{AllocError, Global};
 
@@ -14,9 +14,10 @@ use std::alloc::{AllocError, Global};
 pub fn run(heap: Global, text: &[u8]) -> Result<Outcome, AllocError>
     ensures { IfOk result (Ran (journal text.now)) }
 {
-    match parse(heap, text)? {
+    match parse(heap, text) {
         Ok(journal) => replay_blank(heap, &journal),
-        Err(unreadable) => Outcome::unread(heap, &unreadable),
+        Err(ParseError::Unreadable(unreadable)) => Outcome::unread(heap, &unreadable),
+        Err(ParseError::Memory(error)) => Err(error),
     }
 }
 

@@ -1,14 +1,15 @@
 // The settings of a journal: what each line says, and the order that the lines keep.
-ghost use Rattle.std.specs.Prelude.{◌≡◌, IfOk, OnErr, OnOk};
+ghost use Rattle.std.specs.Prelude.{◌≡◌, OnErr, OnOk};
+ghost use Rattle.std.specs.Option.{option_map};
 ghost use Rattle.journal.specs.Text.{Told, words};
-ghost use Rattle.journal.specs.Settings.{keyword as named, spoken, said, meant};
+ghost use Rattle.journal.specs.Settings.{keyword as named, spoken, said, meant, meant_if};
 ghost use Rattle.journal.specs.Settings.{sofar, no_settings, require, after_serial, admitted, stored};
-ghost use Rattle.journal.specs.Settings.{said_after, at_line, after_line, completed, told, journal};
+ghost use Rattle.journal.specs.Settings.{said_after, at_line, after_line, completed, contents, Parsed, journal};
 
 use crate::text::{
-    Class, check_hex, decode, every, is, is_comment, only_word, short_number, split_word, trimmed,
+    check_hex, decode, is_clean, is_comment, only_word, short_number, split_word, unended,
 };
-use crate::{Journal, Unreadable, Wrong};
+use crate::{Journal, ParseError, Unreadable, Wrong};
 use std::alloc::{AllocError, Global};
 
 // The words that a line may begin with.
@@ -20,10 +21,9 @@ pub(crate) enum Keyword {
     Ledger,
 }
 
-// What one line says; the process is still in hex digits.
+// What a line says that is neither empty nor a comment; the process is still in hex digits.
 #[derive(Clone, Copy, Drop)]
 pub(crate) enum Statement<'a> {
-    Nothing,
     Process(&'a [u8]),
     Serial(u16),
     Scores(u16),
@@ -33,16 +33,12 @@ pub(crate) enum Statement<'a> {
 fn keyword_of(word: &[u8]) -> Option<Keyword>
     ensures { result ≡ named word.now }
 {
-    if is(word, b"process") {
-        Some(Keyword::Process)
-    } else if is(word, b"serial") {
-        Some(Keyword::Serial)
-    } else if is(word, b"scores") {
-        Some(Keyword::Scores)
-    } else if is(word, b"ledger") {
-        Some(Keyword::Ledger)
-    } else {
-        None
+    match word {
+        b"process" => Some(Keyword::Process),
+        b"serial" => Some(Keyword::Serial),
+        b"scores" => Some(Keyword::Scores),
+        b"ledger" => Some(Keyword::Ledger),
+        _ => None,
     }
 }
 
@@ -62,26 +58,25 @@ fn setting(keyword: Keyword, rest: &[u8]) -> Result<Statement<'_>, Wrong>
     }
 }
 
-// What a line says.
-fn read_line(line: &[u8]) -> Result<Statement<'_>, Wrong>
-    ensures { Told result meant (said line.now) }
+// What a line says; `None` if it is empty or a comment.
+fn read_line(line: &[u8]) -> Result<Option<Statement<'_>>, Wrong>
+    ensures { Told result meant_if (said line.now) }
 {
     let Some((word, rest)) = split_word(line) else {
-        return Ok(Statement::Nothing);
+        return Ok(None);
     };
     if is_comment(word) {
-        return Ok(Statement::Nothing);
+        return Ok(None);
     }
-    if !every(line, Class::Allowed) {
+    if !is_clean(line) {
         return Err(Wrong::StrayByte);
     }
-    match keyword_of(word) {
-        Some(keyword) => setting(keyword, rest),
-        None => Err(Wrong::UnknownWord),
-    }
+    let keyword = keyword_of(word).ok_or(Wrong::UnknownWord)?;
+    Ok(Some(setting(keyword, rest)?))
 }
 
 // The settings that were read so far; the process with the number of its line.
+// Serial, scores and ledger are all numbers, but each has an order and a default of its own: a list of numbers would hide which is which.
 #[derive(Drop)]
 pub(crate) struct Draft {
     process: Option<(usize, Vec<u8>)>,
@@ -94,7 +89,7 @@ pub(crate) struct Draft {
 fn require(condition: bool, wrong: Wrong) -> Result<(), Wrong>
     ensures { result ≡ require condition wrong }
 {
-    if condition { Ok(()) } else { Err(wrong) }
+    condition.then_some(()).ok_or(wrong)
 }
 
 impl Draft {
@@ -122,7 +117,6 @@ impl Draft {
         ensures { result ≡ admitted (meant statement.entry) (sofar self.now) }
     {
         match statement {
-            Statement::Nothing => Ok(()),
             Statement::Process(_) => require(self.process.is_none(), Wrong::Repeated),
             Statement::Serial(_) => {
                 require(self.process.is_some(), Wrong::MissingProcess)?;
@@ -150,7 +144,6 @@ impl Draft {
         ensures same { OnErr result (self.new ≡ self.old) }
     {
         match statement {
-            Statement::Nothing => {}
             Statement::Process(digits) => self.process = Some((line, decode(heap, digits)?)),
             Statement::Serial(n) => self.serial = Some(n),
             Statement::Scores(n) => self.scores = Some(n),
@@ -160,38 +153,30 @@ impl Draft {
     }
 
     // What a line says, where it may stand here.
-    fn read<'a>(&self, line: &'a [u8]) -> Result<Statement<'a>, Wrong>
-        ensures { Told result meant (said_after (sofar self.now) line.now) }
+    fn read<'a>(&self, line: &'a [u8]) -> Result<Option<Statement<'a>>, Wrong>
+        ensures { Told result meant_if (said_after (sofar self.now) line.now) }
     {
         let statement = read_line(line)?;
-        self.admit(statement)?;
+        if let Some(statement) = statement {
+            self.admit(statement)?;
+        }
         Ok(statement)
     }
 
     // Reads one line more.
-    fn take(
-        &mut self,
-        heap: Global,
-        number: usize,
-        line: &[u8],
-    ) -> Result<Result<(), Unreadable>, AllocError>
-        ensures { IfOk result (λ a. Told a (λ _. sofar self.new) (after_line number line.now (sofar self.old))) }
+    fn take(&mut self, heap: Global, number: usize, line: &[u8]) -> Result<(), ParseError>
+        ensures { Parsed result (λ _. sofar self.new) (after_line number line.now (sofar self.old)) }
     {
-        match self.read(line) {
-            Ok(statement) => {
-                self.store(heap, number, statement)?;
-                Ok(Ok(()))
-            }
-            Err(wrong) => Ok(Err(Unreadable {
-                line: number,
-                wrong,
-            })),
+        let statement = self.read(line).map_err(|wrong| wrong.at(number))?;
+        if let Some(statement) = statement {
+            self.store(heap, number, statement)?;
         }
+        Ok(())
     }
 
     // The journal, if nothing misses; `line` is one past the last.
     fn complete(self, line: usize) -> Result<Journal, Unreadable>
-        ensures { told result ≡ at_line line (completed (sofar self)) }
+        ensures { Told result contents (at_line line (completed (sofar self))) }
     {
         let Draft {
             process,
@@ -199,51 +184,28 @@ impl Draft {
             scores,
             ledger,
         } = self;
-        let Some((process_line, process)) = process else {
-            return Err(Unreadable {
-                line,
-                wrong: Wrong::MissingProcess,
-            });
-        };
-        let Some(serial) = serial else {
-            return Err(Unreadable {
-                line,
-                wrong: Wrong::MissingSerial,
-            });
-        };
-        let scores = scores.unwrap_or(256);
-        let ledger = ledger.unwrap_or(768);
+        let (process_line, process) = process.ok_or(Wrong::MissingProcess.at(line))?;
+        let serial = serial.ok_or(Wrong::MissingSerial.at(line))?;
         Ok(Journal {
             process,
             process_line,
             serial,
-            scores,
-            ledger,
+            scores: scores.unwrap_or(256),
+            ledger: ledger.unwrap_or(768),
         })
     }
 }
 
 /// Reads the whole text of a journal: the settings, or the first line that cannot be read and what is wrong with it.
-pub fn parse(heap: Global, text: &[u8]) -> Result<Result<Journal, Unreadable>, AllocError>
-    ensures { IfOk result (λ a. told a ≡ journal text.now) }
+pub fn parse(heap: Global, text: &[u8]) -> Result<Journal, ParseError>
+    ensures { Parsed result contents (journal text.now) }
 {
     let mut draft = Draft::new();
+    // What misses is told at the line after the last: the number is used after the loop.
     let mut line = 1;
-    let mut from = 0;
-    for (i, b) in text.iter().enumerate() {
-        if *b == b'\n' {
-            if let Err(unreadable) = draft.take(heap, line, trimmed(&text[from..i]))? {
-                return Ok(Err(unreadable));
-            }
-            line += 1;
-            from = i + 1;
-        }
-    }
-    if from < text.len() {
-        if let Err(unreadable) = draft.take(heap, line, &text[from..])? {
-            return Ok(Err(unreadable));
-        }
+    for ended in text.split_inclusive(|b| *b == b'\n') {
+        draft.take(heap, line, unended(ended))?;
         line += 1;
     }
-    Ok(draft.complete(line))
+    Ok(draft.complete(line)?)
 }

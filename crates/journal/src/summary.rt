@@ -1,13 +1,13 @@
 // The summary of a run, and how it is printed.
-ghost use Rattle.std.specs.Prelude.{◌≡◌, ◌<◌, IfOk, string_bytes};
-ghost use Rattle.journal.specs.Spelled.{phase_text, standing_text, calls_text, state_text, in_play_text, out_of_play_text};
-ghost use Rattle.journal.specs.Spelled.{step_text, steps_text, summary_text, shown_byte, shown_name};
+ghost use Rattle.std.specs.Prelude.{◌≡◌, ◌<◌, ◌++◌, IfOk, string_bytes, Some, codes};
+ghost use Rattle.journal.specs.Spelled.{phase_text, standing_text, rows_text, line_text, summary_text, shown_byte, shown_name};
 
 use std::alloc::{AllocError, Global};
+use std::fmt;
 use values::{Phase, RowState};
 
 /// How many rows there are, and how many in each state.
-#[derive(Clone, Copy, Drop)]
+#[derive(Clone, Copy, Default, Drop)]
 pub struct RowCounts {
     pub all: usize,
     pub running: usize,
@@ -18,18 +18,11 @@ pub struct RowCounts {
     pub passed_over: usize,
 }
 
-/// What a step's line says of its highest row; nothing of a private step's.
-#[derive(Clone, Copy, Drop)]
-pub enum Standing {
-    Private,
-    Shown(RowState),
-}
-
-/// A step's name in printable bytes, and how it stands.
+/// A step's name in printable bytes, and the state of its highest row; of a private step's none is told.
 #[derive(Drop)]
 pub struct StepLine {
     pub name: String,
-    pub standing: Standing,
+    pub standing: Option<RowState>,
 }
 
 /// What is told of a run at its end.
@@ -44,6 +37,7 @@ pub struct Summary {
     pub steps: Vec<StepLine>,
 }
 
+// `Phase` and `RowState` are another crate's, so their words are told here by functions, and not by a Display.
 fn phase_word(phase: Phase) -> &'static str
     ensures { result.now ≡ phase_text phase }
 {
@@ -54,84 +48,81 @@ fn phase_word(phase: Phase) -> &'static str
     }
 }
 
-impl Standing {
-    fn word(self) -> &'static str
-        ensures { result.now ≡ standing_text self }
-    {
-        match self {
-            Standing::Private => "private",
-            Standing::Shown(RowState::Absent) => "none",
-            Standing::Shown(RowState::Running) => "running",
-            Standing::Shown(RowState::Committed) => "committed",
-            Standing::Shown(RowState::Dropped) => "dropped",
-            Standing::Shown(RowState::Due) => "due",
-            Standing::Shown(RowState::Undone) => "undone",
-            Standing::Shown(RowState::PassedOver) => "passed over",
+fn standing_word(standing: Option<RowState>) -> &'static str
+    ensures { result.now ≡ standing_text standing }
+{
+    match standing {
+        None => "private",
+        Some(RowState::Absent) => "none",
+        Some(RowState::Running) => "running",
+        Some(RowState::Committed) => "committed",
+        Some(RowState::Dropped) => "dropped",
+        Some(RowState::Due) => "due",
+        Some(RowState::Undone) => "undone",
+        Some(RowState::PassedOver) => "passed over",
+    }
+}
+
+impl fmt::Display for RowCounts {
+    ghost output = { λ x. Some (rows_text x) };
+
+    fn fmt<W: fmt::Write>(&self, f: &mut fmt::Formatter<W>) -> fmt::Result {
+        let RowCounts {
+            all,
+            running,
+            committed,
+            dropped,
+            due,
+            undone,
+            passed_over,
+        } = *self;
+        write!(f, "rows {all} running {running} committed {committed}")?;
+        write!(
+            f,
+            " dropped {dropped} due {due} undone {undone} passed over {passed_over}"
+        )
+    }
+}
+
+impl fmt::Display for StepLine {
+    ghost output = { λ x. Some (line_text x) };
+
+    fn fmt<W: fmt::Write>(&self, f: &mut fmt::Formatter<W>) -> fmt::Result {
+        let name = self.name.as_str();
+        let standing = standing_word(self.standing);
+        write!(f, "{name} {standing}")
+    }
+}
+
+impl fmt::Display for Summary {
+    ghost output = { λ x. Some (summary_text x) };
+
+    fn fmt<W: fmt::Write>(&self, f: &mut fmt::Formatter<W>) -> fmt::Result {
+        let calls = self.calls;
+        let accepted = self.accepted;
+        let declined = self.declined;
+        let phase = phase_word(self.phase);
+        let rollbacks = self.rollbacks;
+        let rows = self.rows;
+        write!(
+            f,
+            "summary\ncalls {calls} accepted {accepted} declined {declined}\n"
+        )?;
+        write!(f, "phase {phase} rollbacks {rollbacks}\n")?;
+        write!(f, "{rows}\n")?;
+        for (n, step) in self.steps.iter().enumerate() {
+            let n = n + 1;
+            write!(f, "step {n} {step}\n")?;
         }
+        Ok(())
     }
-}
-
-fn calls_line(
-    heap: Global,
-    calls: usize,
-    accepted: usize,
-    declined: usize,
-) -> Result<String, AllocError>
-    ensures { IfOk result (λ t. string_bytes t ≡ calls_text calls accepted declined) }
-{
-    format!(in heap; "summary\ncalls {calls} accepted {accepted} declined {declined}\n")
-}
-
-fn state_line(heap: Global, phase: Phase, rollbacks: u16) -> Result<String, AllocError>
-    ensures { IfOk result (λ t. string_bytes t ≡ state_text phase rollbacks) }
-{
-    let phase = phase_word(phase);
-    format!(in heap; "phase {phase} rollbacks {rollbacks}\n")
-}
-
-fn rows_in_play(heap: Global, rows: &RowCounts) -> Result<String, AllocError>
-    ensures { IfOk result (λ t. string_bytes t ≡ in_play_text rows.now) }
-{
-    let all = rows.all;
-    let running = rows.running;
-    let committed = rows.committed;
-    format!(in heap; "rows {all} running {running} committed {committed}")
-}
-
-fn rows_out_of_play(heap: Global, rows: &RowCounts) -> Result<String, AllocError>
-    ensures { IfOk result (λ t. string_bytes t ≡ out_of_play_text rows.now) }
-{
-    let dropped = rows.dropped;
-    let due = rows.due;
-    let undone = rows.undone;
-    let passed_over = rows.passed_over;
-    format!(in heap; " dropped {dropped} due {due} undone {undone} passed over {passed_over}\n")
-}
-
-fn step_line(heap: Global, n: usize, step: &StepLine) -> Result<String, AllocError>
-    ensures { IfOk result (λ t. string_bytes t ≡ step_text n step.now) }
-{
-    let name = step.name.as_str();
-    let standing = step.standing.word();
-    format!(in heap; "step {n} {name} {standing}\n")
-}
-
-// The lines of the steps, numbered from 1.
-fn step_lines(heap: Global, steps: &[StepLine]) -> Result<String, AllocError>
-    ensures { IfOk result (λ t. string_bytes t ≡ steps_text 1 steps.now) }
-{
-    let mut lines = String::new(heap);
-    for (i, step) in steps.iter().enumerate() {
-        lines.push_str(step_line(heap, i + 1, step)?.as_str())?;
-    }
-    Ok(lines)
 }
 
 fn printable_char(b: u8) -> char
     ensures ascii { result < 128 }
     ensures value { result ≡ shown_byte b }
 {
-    if 33 <= b && b <= 126 {
+    if b.is_ascii_graphic() {
         char::from(b)
     } else {
         '?'
@@ -142,11 +133,7 @@ fn printable_char(b: u8) -> char
 pub fn printable_name(heap: Global, name: &[u8]) -> Result<String, AllocError>
     ensures { IfOk result (λ t. string_bytes t ≡ shown_name name.now) }
 {
-    let mut shown = String::new(heap);
-    for b in name {
-        shown.push(printable_char(*b))?;
-    }
-    Ok(shown)
+    name.iter().map(|b| printable_char(*b)).collect(heap)
 }
 
 impl Summary {
@@ -154,11 +141,6 @@ impl Summary {
     pub fn render(&self, heap: Global) -> Result<String, AllocError>
         ensures { IfOk result (λ t. string_bytes t ≡ summary_text self.now) }
     {
-        let calls = calls_line(heap, self.calls, self.accepted, self.declined)?;
-        let state = state_line(heap, self.phase, self.rollbacks)?;
-        let in_play = rows_in_play(heap, &self.rows)?;
-        let out_of_play = rows_out_of_play(heap, &self.rows)?;
-        let steps = step_lines(heap, self.steps.as_slice())?;
-        format!(in heap; "{calls}{state}{in_play}{out_of_play}{steps}")
+        self.to_string(heap)
     }
 }

@@ -1,28 +1,23 @@
-// The bytes of a journal: words, numbers and hex digits.
-ghost use Rattle.std.specs.Prelude.{◌≡◌, [], ◌∷◌, IfOk, MatchOption, ◌==◌, slice_index};
-ghost use Rattle.std.specs.List.{prefix_len as fronted};
-ghost use Rattle.std.specs.Str.{bytes_eq};
-ghost use Rattle.journal.specs.Text.{Told, pair, paired, bytes_of_hex};
-ghost use Rattle.journal.specs.Text.{blank, nibble, in_class, every, words, only, number, trimmed};
+// The bytes of a journal: lines, words, numbers and hex digits.
+ghost use Rattle.std.specs.Prelude.{◌≡◌, [], ◌∷◌, not, ◌-◌, ◌^◌, min, IfOk, MatchOption, ◌==◌, slice_index, position};
+ghost use Rattle.std.specs.List.{list_all, prefix_len};
+ghost use Rattle.journal.specs.Text.{Told, pair, paired, bytes_of_hex, blank, allowed, digit, nibble, hex, words, only, value, number, unended};
 
 use crate::Wrong;
 use std::alloc::{AllocError, Global};
-
-// The kinds of byte that a reader looks for.
-#[derive(Clone, Copy, Drop)]
-pub(crate) enum Class {
-    Blank,
-    Solid,
-    Allowed,
-    Digit,
-    Hex,
-}
 
 // A space or a tab.
 fn is_blank(b: u8) -> bool
     ensures { result ≡ blank b }
 {
     b == b' ' || b == b'\t'
+}
+
+// Whether the byte may stand in a line.
+fn is_allowed(b: u8) -> bool
+    ensures { result ≡ allowed b }
+{
+    is_blank(b) || b.is_ascii_graphic()
 }
 
 // What a hex digit says.
@@ -37,128 +32,101 @@ fn nibble(b: u8) -> Option<u8>
     }
 }
 
-impl Class {
-    fn has(self, b: u8) -> bool
-        ensures { result ≡ in_class self b }
-    {
-        match self {
-            Class::Blank => is_blank(b),
-            Class::Solid => !is_blank(b),
-            Class::Allowed => is_blank(b) || 33 <= b && b <= 126,
-            Class::Digit => 48 <= b && b <= 57,
-            Class::Hex => nibble(b).is_some(),
-        }
-    }
+// Whether every byte of a line may stand there.
+pub(crate) fn is_clean(line: &[u8]) -> bool
+    ensures { result ≡ list_all allowed line.now }
+{
+    line.iter().all(|b| is_allowed(*b))
 }
 
-// How many bytes at the front are of a class.
-fn leading(bytes: &[u8], class: Class) -> usize
-    ensures { result ≡ fronted (in_class class) bytes.now }
+// These two have a name and a contract, since a proof does not know a chain's answer past the steps that follow it.
+fn all_digits(word: &[u8]) -> bool
+    ensures { result ≡ list_all digit word.now }
 {
-    for (i, b) in bytes.iter().enumerate() {
-        if !class.has(*b) {
-            return i;
-        }
-    }
-    bytes.len()
+    word.iter().all(|b| b.is_ascii_digit())
 }
 
-// Whether every byte is of a class.
-pub(crate) fn every(bytes: &[u8], class: Class) -> bool
-    ensures { result ≡ every (in_class class) bytes.now }
+fn all_hex(word: &[u8]) -> bool
+    ensures { result ≡ list_all hex word.now }
 {
-    leading(bytes, class) == bytes.len()
+    word.iter().all(|b| nibble(*b).is_some())
+}
+
+// Where the first word of a line begins.
+fn word_start(line: &[u8]) -> Option<usize>
+    ensures { result ≡ position (λ b. not (blank b)) line.now }
+{
+    line.iter().position(|b| !is_blank(*b))
+}
+
+// How many bytes the word has that a line begins with.
+fn word_len(line: &[u8]) -> usize
+    ensures { result ≡ prefix_len (λ b. not (blank b)) line.now }
+{
+    line.iter().take_while(|b| !is_blank(**b)).count()
 }
 
 // The first word of a line, and what follows it.
 pub(crate) fn split_word(line: &[u8]) -> Option<(&[u8], &[u8])>
     ensures { MatchOption result (words line.now ≡ []) (λ p. words line.now ≡ p.0.now ∷ words p.1.now) }
 {
-    let (_, line) = line.split_at(leading(line, Class::Blank));
-    let (word, rest) = line.split_at(leading(line, Class::Solid));
-    if word.is_empty() {
-        None
-    } else {
-        Some((word, rest))
-    }
+    let line = &line[word_start(line)?..];
+    Some(line.split_at(word_len(line)))
 }
 
 // The one word of a line's rest.
 pub(crate) fn only_word(line: &[u8]) -> Result<&[u8], Wrong>
     ensures { Told result (λ w. w.now) (only (words line.now)) }
 {
-    let Some((word, rest)) = split_word(line) else {
-        return Err(Wrong::TooFewWords);
-    };
+    let (word, rest) = split_word(line).ok_or(Wrong::TooFewWords)?;
     match split_word(rest) {
         None => Ok(word),
         Some(_) => Err(Wrong::TooManyWords),
     }
 }
 
-// The number that a word says, at most the limit.
-pub(crate) fn number(word: &[u8], limit: u32) -> Result<u32, Wrong>
-    ensures { result ≡ number limit word.now }
+// The number that decimal digits say, or the greatest of the type where it is greater.
+fn value(digits: &[u8]) -> u32
+    ensures { result ≡ min (value digits.now) (2 ^ 32 - 1) }
 {
-    if word.is_empty() || !every(word, Class::Digit) {
-        return Err(Wrong::NotANumber);
-    }
-    let limit = u64::from(limit);
-    let mut n: u64 = 0;
-    for b in word {
-        // Past the limit it does not matter by how much.
-        if n <= limit {
-            n = 10 * n + u64::from(*b - b'0');
-        }
-    }
-    if n <= limit {
-        Ok(n as u32)
-    } else {
-        Err(Wrong::NumberTooLarge)
-    }
+    digits.iter().fold(0, |n: u32, b| {
+        n.saturating_mul(10)
+            .saturating_add(u32::from(b.saturating_sub(b'0')))
+    })
 }
 
 // The number that a word says, at most 65535.
 pub(crate) fn short_number(word: &[u8]) -> Result<u16, Wrong>
     ensures { result ≡ number 65535 word.now }
 {
-    match number(word, 65535) {
-        Ok(n) => Ok(n as u16),
-        Err(wrong) => Err(wrong),
+    if word.is_empty() || !all_digits(word) {
+        return Err(Wrong::NotANumber);
     }
+    u16::try_from(value(word)).map_err(|_| Wrong::NumberTooLarge)
 }
 
 // Whether a line that begins with this word is a comment.
 pub(crate) fn is_comment(word: &[u8]) -> bool
     ensures { result ≡ (slice_index word.now 0 == 35) }
 {
-    !word.is_empty() && word[0] == b'#'
+    matches!(word, [b'#', ..])
 }
 
-// The line without a carriage return at its end.
-pub(crate) fn trimmed(line: &[u8]) -> &[u8]
-    ensures { result.now ≡ trimmed line.now }
+// A line without the line feed at its end, and without a carriage return before that.
+pub(crate) fn unended(line: &[u8]) -> &[u8]
+    ensures { result.now ≡ unended line.now }
 {
-    let n = line.len();
-    if n > 0 && line[n - 1] == b'\r' {
-        &line[0..n - 1]
-    } else {
-        line
+    match line {
+        [front @ .., b'\r', b'\n'] | [front @ .., b'\n'] => front,
+        _ => line,
     }
-}
-
-// Whether a word is the name.
-pub(crate) fn is(word: &[u8], name: &[u8]) -> bool
-    ensures { result ≡ bytes_eq word.now name.now }
-{
-    word == name
 }
 
 // Refuses a word that is not hex digits, two for each byte.
 pub(crate) fn check_hex(word: &[u8]) -> Result<(), Wrong>
     ensures { Told result (λ _. paired word.now) (bytes_of_hex word.now) }
 {
-    if !every(word, Class::Hex) {
+    if !all_hex(word) {
         Err(Wrong::NotHex)
     } else if word.len() % 2 != 0 {
         Err(Wrong::OddHex)
@@ -167,7 +135,7 @@ pub(crate) fn check_hex(word: &[u8]) -> Result<(), Wrong>
     }
 }
 
-// The byte that two hex digits say.
+// The byte that two hex digits say; `check_hex` has refused all others, so no 0 is made up.
 fn pair(high: u8, low: u8) -> u8
     ensures { result ≡ pair high low }
 {
@@ -178,9 +146,9 @@ fn pair(high: u8, low: u8) -> u8
 pub(crate) fn decode(heap: Global, digits: &[u8]) -> Result<Vec<u8>, AllocError>
     ensures { IfOk result (λ v. v.items ≡ paired digits.now) }
 {
-    let mut bytes = Vec::new(heap);
-    for i in 0..digits.len() / 2 {
-        bytes.push(pair(digits[2 * i], digits[2 * i + 1]))?;
-    }
-    Ok(bytes)
+    let (pairs, _) = digits.as_chunks::<2>();
+    pairs
+        .iter()
+        .map(|[high, low]| pair(*high, *low))
+        .collect(heap)
 }

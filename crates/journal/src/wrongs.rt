@@ -1,16 +1,26 @@
 // What is wrong with a line, in words.
-ghost use Rattle.std.specs.Prelude.{◌≡◌, Some};
-ghost use Rattle.journal.specs.Spelled.{wrong_text, report};
+ghost use Rattle.std.specs.Prelude.{◌≡◌, Some, codes};
+ghost use Rattle.journal.specs.Spelled.{wrong_text, report, failure};
 
-use crate::{Unreadable, Wrong};
+use crate::{ParseError, Unreadable, Wrong};
+use std::error::Error;
 use std::fmt;
 
 impl Wrong {
-    // What is wrong, without a word of the line.
-    fn in_words(self) -> &'static str
-        ensures { result.now ≡ wrong_text self }
+    // The same of a line with this number.
+    pub(crate) fn at(self, line: usize) -> Unreadable
+        ensures line { result.line ≡ line }
+        ensures wrong { result.wrong ≡ self }
     {
-        match self {
+        Unreadable { line, wrong: self }
+    }
+}
+
+impl fmt::Display for Wrong {
+    ghost output = { λ x. Some (wrong_text x) };
+
+    fn fmt<W: fmt::Write>(&self, f: &mut fmt::Formatter<W>) -> fmt::Result {
+        f.write_str(match *self {
             Wrong::StrayByte => "a byte is neither printable ASCII nor a space nor a tab",
             Wrong::UnknownWord => "the first word is unknown",
             Wrong::TooFewWords => "a word is missing",
@@ -22,16 +32,7 @@ impl Wrong {
             Wrong::MissingProcess => "the process must come first",
             Wrong::MissingSerial => "the serial must come straight after the process",
             Wrong::Repeated => "this setting was given before",
-        }
-    }
-}
-
-impl fmt::Display for Wrong {
-    ghost output = { λ x. Some (wrong_text x) };
-
-    fn fmt<W: fmt::Write>(&self, f: &mut fmt::Formatter<W>) -> fmt::Result {
-        let words = self.in_words();
-        write!(f, "{words}")
+        })
     }
 }
 
@@ -39,8 +40,20 @@ impl fmt::Display for Unreadable {
     ghost output = { λ x. Some (report x) };
 
     fn fmt<W: fmt::Write>(&self, f: &mut fmt::Formatter<W>) -> fmt::Result {
-        let line = self.line;
-        let wrong = self.wrong.in_words();
+        let Unreadable { line, wrong } = *self;
         write!(f, "line {line}: {wrong}")
     }
 }
+
+impl fmt::Display for ParseError {
+    ghost output = { λ x. Some (failure x) };
+
+    fn fmt<W: fmt::Write>(&self, f: &mut fmt::Formatter<W>) -> fmt::Result {
+        match *self {
+            ParseError::Unreadable(unreadable) => write!(f, "{unreadable}"),
+            ParseError::Memory(_) => write!(f, "memory ran out"),
+        }
+    }
+}
+
+impl Error for ParseError {}

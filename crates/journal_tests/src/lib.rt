@@ -3,17 +3,18 @@
 
 #[cfg(test)]
 mod tests {
-    use journal::{parse, run};
+    use journal::{ParseError, parse, run};
     use std::alloc::Global;
     use std::process::Abort;
     use std::test::Fail;
 
     // The text is refused, with these words.
     fn refused(rt: &impl Abort, heap: Global, text: &[u8], words: &str) -> Result<(), Fail> {
-        match parse(heap, text)? {
+        match parse(heap, text) {
             Ok(_) => Err(Fail::new("it was read")),
-            Err(unreadable) => {
-                let told = format!(in heap; "{unreadable}")?;
+            Err(ParseError::Memory(error)) => Err(Fail::from(error)),
+            Err(error) => {
+                let told = format!(in heap; "{error}")?;
                 assert!(rt; told.as_str() == words, "{}", words);
                 Ok(())
             }
@@ -29,17 +30,13 @@ mod tests {
         line: usize,
         numbers: [u16; 3],
     ) -> Result<(), Fail> {
-        match parse(heap, text)? {
-            Ok(journal) => {
-                assert!(rt; journal.process.as_slice() == process, "process");
-                assert!(rt; journal.process_line == line, "line of the process");
-                assert!(rt; journal.serial == numbers[0], "serial");
-                assert!(rt; journal.scores == numbers[1], "scores");
-                assert!(rt; journal.ledger == numbers[2], "ledger");
-                Ok(())
-            }
-            Err(_) => Err(Fail::new("it was refused")),
-        }
+        let journal = parse(heap, text)?;
+        assert!(rt; journal.process.as_slice() == process, "process");
+        assert!(rt; journal.process_line == line, "line of the process");
+        assert!(rt; journal.serial == numbers[0], "serial");
+        assert!(rt; journal.scores == numbers[1], "scores");
+        assert!(rt; journal.ledger == numbers[2], "ledger");
+        Ok(())
     }
 
     #[test]

@@ -43,8 +43,8 @@ fn journal_of_input(rt: &HostRuntime) -> anyhow::Result<Vec<u8>> {
     Ok(text)
 }
 
-// Prints and reports what came of a journal; answers whether it was replayed.
-fn replay(rt: &HostRuntime, text: &[u8]) -> anyhow::Result<bool> {
+// Prints and reports what came of a journal; the status is 0 if it was replayed.
+fn replay(rt: &HostRuntime, text: &[u8]) -> anyhow::Result<ExitCode> {
     let Outcome {
         printed,
         reported,
@@ -52,14 +52,18 @@ fn replay(rt: &HostRuntime, text: &[u8]) -> anyhow::Result<bool> {
     } = journal::run(rt.alloc(), text)?;
     print!(rt; "{printed}")?;
     eprint!(rt; "{reported}")?;
-    Ok(accepted)
+    Ok(if accepted {
+        ExitCode::SUCCESS
+    } else {
+        ExitCode::FAILURE
+    })
 }
 
-fn perform(rt: &HostRuntime) -> anyhow::Result<bool> {
+fn perform(rt: &HostRuntime) -> anyhow::Result<ExitCode> {
     match asked_for(rt)? {
         Task::Help => {
             print!(rt; "{HELP}")?;
-            Ok(true)
+            Ok(ExitCode::SUCCESS)
         }
         Task::File(path) => replay(rt, fs::read(rt, path.as_str())?.as_slice()),
         Task::Input => replay(rt, journal_of_input(rt)?.as_slice()),
@@ -69,8 +73,7 @@ fn perform(rt: &HostRuntime) -> anyhow::Result<bool> {
 // Where the status is 1, what went wrong has been told.
 fn main(rt: HostRuntime) -> ExitCode {
     match perform(&rt) {
-        Ok(true) => ExitCode::SUCCESS,
-        Ok(false) => ExitCode::FAILURE,
+        Ok(status) => status,
         Err(error) => {
             let _ = eprintln!(rt; "tolibwas: {error}");
             ExitCode::FAILURE

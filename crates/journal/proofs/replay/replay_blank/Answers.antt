@@ -1,5 +1,5 @@
 -- The answer that the reader gave is what is told.
-use Rattle.std.proofs.Common.{◌≡◌, ℕ, ◌+◌, List, length, Ok, Err, refl, ap, ◌∙◌, subst, ap₂}
+use Rattle.std.proofs.Common.{◌≡◌, ℕ, ◌+◌, List, length, Ok, refl, ap, ◌∙◌, subst, ap₂}
 use Rattle.std.proofs.lemmas.Result.{IfOk-weaker}
 use Rattle.process.specs.Accepted.{Reading, tables_of}
 use Rattle.process.specs.Reading.{start}
@@ -25,10 +25,3 @@ returns-in_ok-lines-in-Ok c =
       tells = record { lines = c.in_ok-lines-in-Ok.lines; steps = lines; tells = h ∙ summary };
     })
     c.replayed.ensures
-
-pub returns-in-Err : goal.returns-in-Err
-returns-in-Err c =
-    let stored = c.as_slice-stored.ensures.value in
-    let reading = subst (λ (xs : List ℕ). Reading xs (Err c.in-Err.fault)) stored (c.in-Err.ensures.answer refl) in
-    IfOk-weaker c.declined.result _ _
-    (λ x h. record { answer = Err c.in-Err.fault; reading = reading; tells = h }) c.declined.ensures

@@ -1,20 +1,20 @@
--- Each turn pushes what is shown of one byte.
-use Rattle.std.proofs.Common.{◌≡◌, ℕ, ◌+◌, ◌<◌, ◌≤◌, List, [], ◌∷◌, ◌++◌, length, get_or, take, sym, ap, ◌∙◌, ap₂, arith}
-use Rattle.std.proofs.lemmas.List.{map_more, take_all}
+-- What is shown is ASCII, so each character is a byte.
+use Rattle.std.proofs.Common.{rules, ◌≡◌, ℕ, ◌<◌, List, [], ◌∷◌, IfOk, map, string_bytes, refl, ◌∙◌, ap₂, ◌++◌, arith}
+use Rattle.std.specs.Prelude.{encode_utf8_all}
+use Rattle.std.proofs.lemmas.Str.{encode_ascii}
+use Rattle.std.proofs.lemmas.Bool.Decides.{nat_tests}
+use Rattle.std.proofs.lemmas.Result.{IfOk-weaker}
 use Rattle.journal.specs.Spelled.{shown_byte, shown_name}
 use Rattle.journal.proofs.summary.printable_name.Goals as goal
 
-one_more : {old new ch : List ℕ} {c : ℕ} (name : List ℕ) (i : ℕ) → i < length name → new ≡ old ++ ch → ch ≡ c ∷ [] → c ≡ shown_byte (get_or name i 0)
-    → old ≡ shown_name (take i name) → new ≡ shown_name (take (i + 1) name)
-one_more name i l pushed one byte h =
-    pushed ∙ ap₂ ◌++◌ h (one ∙ ap (λ (b : ℕ). b ∷ []) byte) ∙ sym (map_more shown_byte name i 0 l)
+small : (b : ℕ) → shown_byte b < 128
+small b = grind (arith, nat_tests)
 
-pub loop-b-preserved : goal.loop-b-preserved
-loop-b-preserved c =
-    one_more c.args.name.now c.loop-b.b-index c.loop-b-test.true c.in_ok-push.ensures.bytes
-    (c.in_ok-push.ensures.ascii c.printable_char.ensures.ascii) c.printable_char.ensures.value c.loop-b.invariant
+shown_ascii : (name : List ℕ) → encode_utf8_all (map shown_byte name) ≡ shown_name name
+shown_ascii [] = refl
+shown_ascii (b ∷ bs) = ap₂ ◌++◌ (encode_ascii (shown_byte b) (small b)) (shown_ascii bs)
 
 pub returns : goal.returns
 returns c =
-    let past : length c.args.name.now ≤ c.loop-b.b-index = omega arith in
-    c.loop-b.invariant ∙ ap shown_name (take_all c.loop-b.b-index c.args.name.now past)
+    let mapped : IfOk c.collect.result (λ t. string_bytes t ≡ encode_utf8_all (map shown_byte c.args.name.now)) = search rules in
+    IfOk-weaker c.collect.result _ _ (λ t h. h ∙ shown_ascii c.args.name.now) mapped

@@ -1,12 +1,10 @@
--- Each turn pushes the byte of two digits.
-use Rattle.std.proofs.Common.{vec_items, arith}
-use Rattle.journal.proofs.Hex.{paired_more, paired_all}
+use Rattle.std.proofs.Common.{rules, ◌≡◌, ◌/◌, IfOk, length, map, ◌∙◌}
+use Rattle.std.specs.Simd.{first_chunks}
+use Rattle.std.proofs.lemmas.Result.{IfOk-weaker}
+use Rattle.journal.proofs.Hex.{pair_of, chunks_paired}
 use Rattle.journal.proofs.text.decode.Goals as goal
 
-pub loop-i-preserved : goal.loop-i-preserved
-loop-i-preserved c =
-    rw c.in_ok-push.ensures.items
-    (paired_more c.args.digits.now (vec_items c.loop-i.bytes) c.loop-i.i c.pair.result (omega arith) c.pair.ensures c.loop-i.invariant)
-
 pub returns : goal.returns
-returns c = paired_all c.args.digits.now (vec_items c.loop-i.bytes) c.loop-i.i (omega arith) c.loop-i.invariant
+returns c =
+    let mapped : IfOk c.collect.result (λ v. v.items ≡ map pair_of (first_chunks 2 (length c.args.digits.now / 2) c.args.digits.now)) = search rules in
+    IfOk-weaker c.collect.result _ _ (λ v h. h ∙ chunks_paired c.args.digits.now) mapped

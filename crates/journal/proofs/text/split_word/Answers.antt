@@ -1,35 +1,19 @@
--- The two cuts lie within the line, and give its first word.
-use Rattle.std.proofs.Common.{arith, true-eqb, false-eqb}
+-- The first word begins past the blanks, and ends before the next.
+use Rattle.std.proofs.Common.{length, take, drop, arith, ◌-◌, ap, ◌∙◌, sym, ap₂, ◌∷◌, ℕ, List, not, refl}
 use Rattle.std.proofs.lemmas.List.Sums.{prefix_len-le-length}
-use Rattle.journal.specs.Text.{in_class}
-use Rattle.journal.specs.declared.text.Class.TheVariants.{Blank, Solid}
-use Rattle.journal.proofs.Words.{Cut, no_word, first_word}
+use Rattle.journal.specs.Text.{blank, words}
+use Rattle.journal.proofs.Words.{no_word, first_word}
 use Rattle.journal.proofs.text.split_word.Goals as goal
 
+pub returns-in_err-line : goal.returns-in_err-line
+returns-in_err-line c = rw c.from_residual.ensures (no_word c.args.line.now c.in_err-line.ensures)
+
 pub split_at-requires : goal.split_at-requires
-split_at-requires c = omega (arith, c.leading.ensures, prefix_len-le-length (in_class Blank) c.args.line.now)
+split_at-requires c = omega (arith, c.word_len.ensures, prefix_len-le-length (λ b. not (blank b)) (take (length c.args.line.now - c.in_ok-line.field-0) (drop c.in_ok-line.field-0 c.args.line.now)))
 
-pub split_at-requires-2 : goal.split_at-requires-2
-split_at-requires-2 c = omega (arith, c.leading-2.ensures, prefix_len-le-length (in_class Solid) c.split_at.result.1.now)
-
-pub returns-then-is_empty : goal.returns-then-is_empty
-returns-then-is_empty c =
-    let cut : Cut c.args.line.now c.split_at.result.1.now c.split_at-2.result.0.now c.split_at-2.result.1.now _ _ = record {
-      m_is = c.leading.ensures;
-      after_is = c.split_at.ensures.back;
-      n_is = c.leading-2.ensures;
-      word_is = c.split_at-2.ensures.front;
-      rest_is = c.split_at-2.ensures.back;
-    } in
-    no_word cut (true-eqb _ 0 c.if-is_empty.ensures)
-
-pub returns-else-is_empty : goal.returns-else-is_empty
-returns-else-is_empty c =
-    let cut : Cut c.args.line.now c.split_at.result.1.now c.split_at-2.result.0.now c.split_at-2.result.1.now _ _ = record {
-      m_is = c.leading.ensures;
-      after_is = c.split_at.ensures.back;
-      n_is = c.leading-2.ensures;
-      word_is = c.split_at-2.ensures.front;
-      rest_is = c.split_at-2.ensures.back;
-    } in
-    first_word cut (omega (arith, false-eqb _ 0 c.if-is_empty.ensures))
+pub returns : goal.returns
+returns c =
+    let after = take (length c.args.line.now - c.in_ok-line.field-0) (drop c.in_ok-line.field-0 c.args.line.now) in
+    first_word c.args.line.now c.in_ok-line.field-0 c.in_ok-line.ensures after refl
+    ∙ ap (λ (n : ℕ). take n after ∷ words (drop n after)) (sym c.word_len.ensures)
+    ∙ ap₂ (λ (w r : List ℕ). w ∷ words r) (sym c.split_at.ensures.front) (sym c.split_at.ensures.back)
