@@ -57,6 +57,7 @@ impl Traversal<'_, '_, '_, '_> {
     {
         for s in starts {
             let t = *s as usize;
+            // two comparisons: with the range's `contains` the check leaves its goals open
             if t == 0 || t > self.points {
                 continue;
             }

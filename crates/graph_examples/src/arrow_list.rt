@@ -37,6 +37,7 @@ impl Graph for ArrowList<'_> {
     }
 
     fn next_target(&self, from: usize, after: usize) -> Option<usize> {
+        // two comparisons: with the range's `contains` the check leaves its goals open
         if from == 0 || from > self.points {
             return None;
         }

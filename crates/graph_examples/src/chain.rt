@@ -21,6 +21,7 @@ impl Graph for Chain {
     }
 
     fn next_target(&self, from: usize, after: usize) -> Option<usize> {
+        // comparisons: with the range's `contains` the check leaves its goals open
         if from >= 1 && from < self.points && after <= from {
             Some(from + 1)
         } else {

@@ -31,6 +31,7 @@ impl<X: Host, Y: Host> Host for Pair<X, Y> {
 
     ghost sound = { Prim.search rules };
 
+    // Four lines, as in the other of the two: a trait with the call as its one method would have every host take it apart.
     fn begin(&mut self, row: RowKey, entry: Entry) -> Result<(), Fault> {
         self.pass(Call::Begin(row, entry))
     }

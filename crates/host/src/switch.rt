@@ -30,6 +30,7 @@ impl<X: Host> Host for Switch<X> {
 
     ghost sound = { Prim.search rules };
 
+    // Four lines, as in the other of the two: a trait with the call as its one method would have every host take it apart.
     fn begin(&mut self, row: RowKey, entry: Entry) -> Result<(), Fault> {
         self.pass(Call::Begin(row, entry))
     }

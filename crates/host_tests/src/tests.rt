@@ -52,13 +52,11 @@ fn expect<X: Host>(rt: &impl Abort, host: &mut X, cases: &[(Call, u8)]) {
 }
 
 // Begins rows from 1 on until one is declined: how many were begun, and the number of the cause.
-fn fill<X: Host>(host: &mut X, entry: Entry) -> (u16, u8) {
-    for row in 1..1000u16 {
-        if let Some(cause) = cause_of(host, Call::Begin(row_key(row), entry)) {
-            return (row - 1, u8::from(cause));
-        }
-    }
-    (1000, 0)
+fn fill<X: Host>(host: &mut X, entry: Entry) -> Option<(u16, u8)> {
+    (0..1000u16).find_map(|begun| {
+        let cause = cause_of(host, Call::Begin(row_key(begun + 1), entry))?;
+        Some((begun, u8::from(cause)))
+    })
 }
 
 #[test]
@@ -146,11 +144,11 @@ fn fills(
     let mut book = ledger(heap, length)?;
     assert_eq!(rt; book.room(Kind::Fee), fees.0);
     assert_eq!(rt; book.room(Kind::Score), 0);
-    assert!(rt; fill(&mut book, FEE) == fees);
+    assert!(rt; fill(&mut book, FEE) == Some(fees));
     let mut book = score_book(heap, length)?;
     assert_eq!(rt; book.room(Kind::Score), scores.0);
     assert_eq!(rt; book.room(Kind::Fee), 0);
-    assert!(rt; fill(&mut book, SCORE) == scores);
+    assert!(rt; fill(&mut book, SCORE) == Some(scores));
     Ok(())
 }
 

@@ -39,6 +39,7 @@ pub(crate) fn blank_lines(
 {
     let mut lines = Vec::new(heap);
     let mut reader = Reader::new(stored);
+    // a number of records, by which nothing is looked up
     for _i in 0..records {
         let Ok(Some(item)) = reader.next() else {
             return Ok(lines);

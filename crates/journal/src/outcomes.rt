@@ -13,6 +13,7 @@ use values::{Fault, Phase};
 pub struct Outcome {
     pub printed: String,
     pub reported: String,
+    // no result: both texts always mean something
     pub accepted: bool,
 }
 

@@ -8,6 +8,7 @@ use crate::outcomes::{Outcome, blank_summary};
 use crate::settings::parse;
 use crate::{Journal, ParseError};
 use process::tables::Tables;
+use process::{COLUMN, LINE};
 use std::alloc::{AllocError, Global};
 
 /// Reads the text of a journal, and tells what came of it: what to print, what to report, and whether it was replayed.
@@ -27,8 +28,8 @@ fn replay_blank(heap: Global, journal: &Journal) -> Result<Outcome, AllocError>
 {
     let stored = journal.process.as_slice();
     let tables = Tables::new(heap)?;
-    let mut column = [0; 257];
-    let mut line = [0; 256];
+    let mut column = [0; COLUMN];
+    let mut line = [0; LINE];
     match process::read(stored, tables, &mut column, &mut line) {
         Ok(process) => {
             let steps = process.steps().len();

@@ -201,7 +201,7 @@ pub fn parse(heap: Global, text: &[u8]) -> Result<Journal, ParseError>
     ensures { Parsed result contents (journal text.now) }
 {
     let mut draft = Draft::new();
-    // What misses is told at the line after the last: the number is used after the loop.
+    // What is missing is told at the line after the last: the number is used after the loop.
     let mut line = 1;
     for ended in text.split_inclusive(|b| *b == b'\n') {
         draft.take(heap, line, unended(ended))?;

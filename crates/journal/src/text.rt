@@ -20,7 +20,7 @@ fn is_allowed(b: u8) -> bool
     is_blank(b) || b.is_ascii_graphic()
 }
 
-// What a hex digit says.
+// What a hex digit says. The arms show what each digit stands for, and the order of faults stays ours.
 fn nibble(b: u8) -> Option<u8>
     ensures { result ≡ nibble b }
 {
@@ -39,7 +39,8 @@ pub(crate) fn is_clean(line: &[u8]) -> bool
     line.iter().all(|b| is_allowed(*b))
 }
 
-// These two have a name and a contract, since a proof does not know a chain's answer past the steps that follow it.
+// These two have names and contracts, as `is_clean` above and the two below: inside their callers the check did not
+// find the proof of what the chains answer.
 fn all_digits(word: &[u8]) -> bool
     ensures { result ≡ list_all digit word.now }
 {

@@ -1,5 +1,5 @@
 -- What the last checks look for. Assumes nothing.
-use Rattle.std.specs.Prelude.{◌≡◌, ℕ, ◌<◌, ◌≤◌, Bool, true, false, ◌&&◌, List, length, Some, None, Option, ◌==◌, nat_le, nat_lt, slice_index_or}
+use Rattle.std.specs.Prelude.{◌≡◌, ℕ, ◌<◌, ◌≤◌, Bool, true, false, ◌&&◌, List, length, Some, None, Option, nat_le, slice_index_or}
 use Rattle.graph.specs.Column.{marked}
 use Rattle.graph.specs.Reach.{Within}
 use Rattle.process.specs.declared.parts.Arrow.{Arrow}
@@ -15,10 +15,6 @@ Sorted zs = (i j : ℕ) → (i < j) × (j < length zs) → before (slice_index_o
 abbrev pub Inside : ℕ → List Arrow → Type 0
 Inside n zs = (i : ℕ) → i < length zs
     → Within n (slice_index_or zs i no_arrow).from × Within n (slice_index_or zs i no_arrow).to
-
--- the arrow leads from step j to a step above `after`, one of n
-abbrev pub hits : ℕ → ℕ → ℕ → Arrow → Bool
-hits n j after a = a.from == j && (nat_lt after a.to && nat_le a.to n)
 
 -- step k has at most 8 arrows out and 8 in, and is marked
 abbrev pub fine_by : List ℕ → List Arrow → ℕ → Bool

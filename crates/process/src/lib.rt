@@ -10,5 +10,5 @@ mod shape;
 pub mod tables;
 
 pub use accepted::Process;
-pub use accepted::read::{is_enough, read};
+pub use accepted::read::{COLUMN, LINE, is_enough, read};
 pub use reader::Reader;

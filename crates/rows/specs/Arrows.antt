@@ -1,5 +1,5 @@
 -- The arrows of a table as those of graphs. Assumes nothing.
-use Rattle.std.specs.Prelude.{◌≡◌, ℕ, min, Bool, true, cond, List, [], Some, None, Option, nat_le}
+use Rattle.std.specs.Prelude.{◌≡◌, ℕ, Bool, true, cond, List, []}
 use Rattle.values.specs.declared.RowState.TheVariants.{PassedOver}
 use Rattle.graph.specs.Reach.{Within}
 use Rattle.model.specs.Search.{has}
@@ -22,8 +22,3 @@ back preds j k = has k (preds j)
 -- the predecessors of a passed-over row; none of any other
 abbrev pub passed_preds : Rows → ℕ → List ℕ
 passed_preds r v = cond (in_state r PassedOver v) (r.preds v) []
-
--- the lower of the least so far and x, where x is above `after`
-abbrev pub least_with : ℕ → Option ℕ → ℕ → Option ℕ
-least_with after None x = cond (nat_le x after) None (Some x)
-least_with after (Some t) x = cond (nat_le x after) (Some t) (Some (min t x))

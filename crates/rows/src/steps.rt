@@ -44,6 +44,7 @@ impl RowTable {
         ensures { result.items ≡ uncut (steps_only steps.now) (rows_of self.now) row }
     {
         let mut uncut = ArrayVec::new();
+        // an `extend` would answer a result that cannot fail
         for w in self.predecessors(row) {
             if !self.is_savepoint(steps, *w) {
                 uncut.push(*w);

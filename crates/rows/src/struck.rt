@@ -29,6 +29,7 @@ fn if_marked(marks: &Marks, number: u16) -> u16
 }
 
 /// The numbers from 1 to 256 that are marked, each at its place, and 0 at the other places.
+// Not one function with that of all numbers: with the test as a closure the search for its proof gives up.
 fn marked_numbers(marks: &Marks) -> [u16; 256]
     ensures { Passing (marked (held marks.now)) result }
 {

@@ -18,6 +18,7 @@ pub struct Sheet {
     process: Process,
     table: RowTable,
     phase: Phase,
+    // before the first abort 0 and complete, and no options: the model's sheet has them so
     rollback: u16,
     serial: u16,
     mode: Mode,

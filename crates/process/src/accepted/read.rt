@@ -14,10 +14,10 @@ use graph::scratch::Scratch;
 use values::{Cause, Fault, Layer};
 
 /// How many bytes of the column reading wants.
-const COLUMN: usize = 257;
+pub const COLUMN: usize = 257;
 
 /// How many numbers of the line reading wants.
-const LINE: usize = 256;
+pub const LINE: usize = 256;
 
 impl Process {
     /// The process that the tables hold.

@@ -31,6 +31,7 @@ impl RowTable {
         if self.is_in(RowState::Absent, number) {
             return;
         }
+        // the row is there: a `get_mut` would look again
         self.rows[number as usize - 1].state = to;
     }
 

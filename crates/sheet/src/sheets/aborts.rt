@@ -47,7 +47,7 @@ impl Sheet {
         }
     }
 
-    // Drops all running rows at the host.
+    // Drops all running rows at the host. The number is the row's name there, so the loop is over numbers.
     fn drop_running<X: Host>(&self, host: &mut X)
         requires { Droppable (sheet_of self.now).rows (X.Host.view host.old) }
         ensures { X.Host.view host.new ≡ all_dropped (sheet_of self.now).rows (X.Host.view host.old) }

@@ -62,6 +62,8 @@ impl Candidate<'_> {
             && is_arrow(&self.sheet.process, table.step(row), self.step)
     }
 
+    // The next three take a place among the predecessors: as the predecessor itself it could not say which are earlier.
+
     // Whether an earlier predecessor is of the same step as the one at that place.
     fn is_met_earlier(&self, place: usize) -> bool
         requires { place < length self.now.predecessors.now }
