@@ -63,6 +63,11 @@ module _ {X : Type 0} {x : X} {s new : Sheet} {v moved : View} where
   host_declines own asked {f} h k =
       rw (first_asked own asked (none_stands (first_fault own) h), one_stands (first_fault asked) f k) (comes (Some f))
 
+  -- a check before all others that passed
+  pub passed_first : (o : Option Fault) (cs : List (Option Fault)) → Passes o → {r : Result X Fault} {s' : Sheet} {v' : View}
+      → Comes (first_fault cs) x s new v moved r s' v' → Comes (first_fault (o ∷ cs)) x s new v moved r s' v'
+  passed_first o cs h = rw (none_stands o h) (λ p. p)
+
   -- neither declines
   pub both_accept : (own asked : List (Option Fault)) → Passes (first_fault own) → Passes (first_fault asked)
       → {r : Result X Fault} {s' : Sheet} {v' : View} → r ≡ Ok x → s' ≡ new → v' ≡ after (first_fault asked) v moved

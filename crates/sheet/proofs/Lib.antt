@@ -2,3 +2,4 @@ pub mod Aborting
 pub mod Comings
 pub mod Searching
 pub mod Starting
+pub mod Rolling

@@ -1,15 +1,24 @@
 // Rolling back.
-ghost use Rattle.std.specs.Prelude.{◌≡◌, ◌&&◌};
+ghost use Rattle.std.specs.Prelude.{◌≡◌, ◌&&◌, true, false, None, length};
+ghost use Rattle.graph.specs.Held.{held};
+ghost use Rattle.graph.specs.Scratch.{SameLoans};
+ghost use Rattle.process.specs.Accepted.{enough, Left};
+ghost use Rattle.model.specs.Sheet.{aborted};
 ghost use Rattle.values.specs.Checks.{answer, first_fault};
 ghost use Rattle.values.specs.declared.RowState.TheVariants.{Running};
 ghost use Rattle.model.specs.Rows.{in_state};
 ghost use Rattle.model.specs.Calls.{lowest_row, mode_check, all_dropped};
 ghost use Rattle.sheet.specs.Calls.{abort_own_checks, not_open, Droppable};
-ghost use Rattle.sheet.specs.SheetOf.{sheet_of};
+ghost use Rattle.sheet.specs.Aborts.{Aborts};
+ghost use Rattle.sheet.specs.SheetOf.{sheet_of, chart_of};
 
 use super::Sheet;
+use crate::memory::wants_memory;
+use crate::ticket::Ticket;
+use graph::marks::Marks;
+use graph::scratch::Scratch;
 use host::{Host, row_key};
-use values::{Cause, Fault, HostState, Layer, Mode, Phase, RowState};
+use values::{Cause, Fault, HostState, Layer, Mode, Phase, RowState, TicketNumber};
 
 impl Sheet {
     // Whether the row runs, and is not open at the host.
@@ -81,5 +90,55 @@ impl Sheet {
             return Err(Layer::Host.fault(Cause::OtherState, usize::from(row)));
         }
         Ok(())
+    }
+
+    // Takes back what the abort strikes: the marks first, then the running rows at the host, then all rows of the sheet.
+    fn roll_back<X: Host>(&mut self, host: &mut X, mode: Mode, scratch: &mut Scratch)
+        requires may { first_fault (abort_own_checks (sheet_of self.old) (X.Host.view host.old) mode) ≡ None }
+        requires room { enough (length (held scratch.old.marks.now)) (length scratch.old.line.now) ≡ true }
+        ensures sheet { sheet_of self.new ≡ aborted (chart_of self.old) (sheet_of self.old) mode }
+        ensures host { X.Host.view host.new ≡ all_dropped (sheet_of self.old).rows (X.Host.view host.old) }
+        ensures process { self.new.process ≡ self.old.process }
+        ensures loans { SameLoans scratch.old scratch.new }
+    {
+        self.table
+            .mark_struck(self.process.steps(), mode, scratch)
+            .unwrap();
+        self.drop_running(host);
+        let rollback = self.rollback + 1;
+        self.table
+            .fall(self.process.steps(), scratch.marks, rollback);
+        self.phase = Phase::Undoing;
+        self.rollback = rollback;
+        self.mode = mode;
+    }
+
+    /// Rolls back, all of it or what a failing row calls for: running rows are dropped, on the sheet and at the host, and
+    /// struck rows are due or passed over. Gives the ticket of the rollback.
+    pub(crate) fn abort<X: Host>(
+        &mut self,
+        host: &mut X,
+        mode: Mode,
+        column: &mut [u8],
+        line: &mut [u16],
+    ) -> Result<Ticket, Fault>
+        ensures comes { Aborts (chart_of self.old) (sheet_of self.old) (X.Host.view host.old) mode
+            (length column.old) (length line.old) result (sheet_of self.new) (X.Host.view host.new) }
+        ensures process { self.new.process ≡ self.old.process }
+        ensures column { Left (enough (length column.old) (length line.old)) column.old column.new }
+        ensures line { enough (length column.old) (length line.old) ≡ false → line.new ≡ line.old }
+    {
+        wants_memory(column, line)?;
+        let mut marks = Marks::new(column);
+        self.may_abort(host, mode)?;
+        let mut scratch = Scratch {
+            marks: &mut marks,
+            line,
+        };
+        self.roll_back(host, mode, &mut scratch);
+        Ok(Ticket::new(TicketNumber {
+            serial: self.serial,
+            rollback: self.rollback,
+        }))
     }
 }
