@@ -22,7 +22,7 @@ Passes o = ◌≡◌ {A = Result (Unit {0}) Fault} (Ok tt) (answer o tt)
 abbrev pub Fails : Option Fault → Fault → Type 0
 Fails o f = ◌≡◌ {A = Result (Unit {0}) Fault} (Err f) (answer o tt)
 
-none_stands : (o : Option Fault) → Passes o → o ≡ None
+pub none_stands : (o : Option Fault) → Passes o → o ≡ None
 none_stands None h = refl
 none_stands (Some f) h = cc
 

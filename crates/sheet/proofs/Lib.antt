@@ -3,3 +3,4 @@ pub mod Comings
 pub mod Searching
 pub mod Starting
 pub mod Rolling
+pub mod Phases

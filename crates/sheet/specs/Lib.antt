@@ -3,4 +3,4 @@ pub mod Parts
 pub mod SheetOf
 pub mod Candidates
 pub mod Calls
-pub mod Aborts
+pub mod Tickets

@@ -9,7 +9,7 @@ ghost use Rattle.values.specs.declared.RowState.TheVariants.{Running};
 ghost use Rattle.model.specs.Rows.{in_state};
 ghost use Rattle.model.specs.Calls.{lowest_row, mode_check, all_dropped};
 ghost use Rattle.sheet.specs.Calls.{abort_own_checks, not_open, Droppable};
-ghost use Rattle.sheet.specs.Aborts.{Aborts};
+ghost use Rattle.sheet.specs.Tickets.{Aborts};
 ghost use Rattle.sheet.specs.SheetOf.{sheet_of, chart_of};
 
 use super::Sheet;
@@ -18,7 +18,7 @@ use crate::ticket::Ticket;
 use graph::marks::Marks;
 use graph::scratch::Scratch;
 use host::{Host, row_key};
-use values::{Cause, Fault, HostState, Layer, Mode, Phase, RowState, TicketNumber};
+use values::{Cause, Fault, HostState, Layer, Mode, Phase, RowState};
 
 impl Sheet {
     // Whether the row runs, and is not open at the host.
@@ -136,9 +136,6 @@ impl Sheet {
             line,
         };
         self.roll_back(host, mode, &mut scratch);
-        Ok(Ticket::new(TicketNumber {
-            serial: self.serial,
-            rollback: self.rollback,
-        }))
+        Ok(Ticket::new(self.current()))
     }
 }

@@ -1,0 +1,39 @@
+-- What the calls that give or end a ticket answer, and what they leave. Assumes nothing.
+use Rattle.std.specs.Prelude.{◌≡◌, ℕ, Ok, Err, Option, Result, IfErr}
+use Rattle.values.specs.Checks.{answer, after}
+use Rattle.values.specs.declared.Phase.TheVariants.{Undoing}
+use Rattle.values.specs.declared.Fault.{Fault}
+use Rattle.values.specs.declared.Mode.{Mode}
+use Rattle.values.specs.declared.TicketNumber.{TicketNumber}
+use Rattle.host.specs.View.{View}
+use Rattle.model.specs.Chart.{Chart}
+use Rattle.model.specs.Sheet.{Sheet, aborted, ticket_of, with_phase}
+use Rattle.model.specs.Calls.{abort_fault, all_dropped, resume_fault}
+use Rattle.sheet.specs.declared.ticket.Ticket.{Ticket}
+use Rattle.sheet.specs.Calls.{Comes}
+
+-- a ticket by the numbers that it shows
+abbrev pub numbers_of : Result Ticket Fault → Result TicketNumber Fault
+numbers_of (Ok t) = Ok t.number
+numbers_of (Err f) = Err f
+
+-- running rows dropped, also at the host, struck rows due or passed over, and the ticket of the rollback; in memory of these lengths
+abbrev pub Aborts : Chart → Sheet → View → Mode → ℕ → ℕ → Result Ticket Fault → Sheet → View → Type 0
+Aborts c s v m column line r =
+    Comes (abort_fault s v m column line) (ticket_of (aborted c s m)) s (aborted c s m) v (all_dropped s.rows v) (numbers_of r)
+
+-- the fault of a declined call, without the ticket that it hands back
+abbrev pub fault_only : Result (Unit {0}) (Ticket × Fault) → Result (Unit {0}) Fault
+fault_only (Ok u) = Ok u
+fault_only (Err e) = Err e.1
+
+-- a ticket ended, and the sheet in another phase; a declined call hands that very ticket back
+pub record Leaves (f : Option Fault) (t : Ticket) (s new : Sheet) (r : Result (Unit {0}) (Ticket × Fault)) (s' : Sheet) : Type 0 where
+  pub answers : fault_only r ≡ answer f tt
+  pub sheet : s' ≡ after f s new
+  pub back : IfErr r (λ e. e.0 ≡ t)
+
+-- a parked rollback taken up again, with its ticket
+pub record Resumes (s : Sheet) (r : Result Ticket Fault) (s' : Sheet) : Type 0 where
+  pub answers : numbers_of r ≡ answer (resume_fault s) (ticket_of s)
+  pub sheet : s' ≡ after (resume_fault s) s (with_phase s Undoing)

@@ -1,0 +1,91 @@
+// Ending a rollback, parking it, and taking it up again.
+ghost use Rattle.std.specs.Prelude.{◌≡◌, [], ◌∷◌};
+ghost use Rattle.values.specs.Checks.{answer, first_fault};
+ghost use Rattle.values.specs.declared.Phase.TheVariants.{Forward, Undoing, Parked};
+ghost use Rattle.model.specs.Calls.{phase_check, ticket_check, finish_fault, park_fault, resume_fault};
+ghost use Rattle.model.specs.Sheet.{ticket_of, with_phase};
+ghost use Rattle.sheet.specs.SheetOf.{sheet_of};
+ghost use Rattle.sheet.specs.Tickets.{Leaves, Resumes};
+
+use super::Sheet;
+use crate::ticket::Ticket;
+use values::{Cause, Fault, Layer, Phase, RowState, TicketNumber};
+
+impl Sheet {
+    // The numbers of the current rollback's ticket.
+    pub(crate) fn current(&self) -> TicketNumber
+        ensures { result ≡ ticket_of (sheet_of self.now) }
+    {
+        TicketNumber {
+            serial: self.serial,
+            rollback: self.rollback,
+        }
+    }
+
+    // Declines a ticket of another sheet, or of another rollback.
+    fn wants_ticket(&self, ticket: TicketNumber) -> Result<(), Fault>
+        ensures { result ≡ answer (ticket_check (sheet_of self.now) ticket) tt }
+    {
+        if ticket != self.current() {
+            return Err(Layer::Sheet.fault(Cause::OtherTicket, usize::from(self.rollback)));
+        }
+        Ok(())
+    }
+
+    // Whether a rollback is under way, and the ticket is its.
+    pub(crate) fn wants_rollback(&self, ticket: TicketNumber) -> Result<(), Fault>
+        ensures { result ≡ answer (first_fault (phase_check (sheet_of self.now) Undoing
+            ∷ ticket_check (sheet_of self.now) ticket ∷ [])) tt }
+    {
+        self.wants(Phase::Undoing)?;
+        self.wants_ticket(ticket)
+    }
+
+    fn may_finish(&self, ticket: TicketNumber) -> Result<(), Fault>
+        ensures { result ≡ answer (finish_fault (sheet_of self.now) ticket) tt }
+    {
+        self.wants_rollback(ticket)?;
+        if let Some(row) = self.table.lowest(RowState::Due) {
+            return Err(Layer::Sheet.fault(Cause::StillDue, usize::from(row)));
+        }
+        Ok(())
+    }
+
+    /// Ends the rollback, where no row is due any more. A declined call hands the ticket back.
+    pub(crate) fn finish(&mut self, ticket: Ticket) -> Result<(), (Ticket, Fault)>
+        ensures comes { Leaves (finish_fault (sheet_of self.old) ticket.number) ticket (sheet_of self.old)
+            (with_phase (sheet_of self.old) Forward) result (sheet_of self.new) }
+        ensures process { self.new.process ≡ self.old.process }
+    {
+        if let Err(fault) = self.may_finish(ticket.number()) {
+            return Err((ticket, fault));
+        }
+        ticket.spend();
+        self.phase = Phase::Forward;
+        Ok(())
+    }
+
+    /// Parks the rollback. A declined call hands the ticket back.
+    pub(crate) fn park(&mut self, ticket: Ticket) -> Result<(), (Ticket, Fault)>
+        ensures comes { Leaves (park_fault (sheet_of self.old) ticket.number) ticket (sheet_of self.old)
+            (with_phase (sheet_of self.old) Parked) result (sheet_of self.new) }
+        ensures process { self.new.process ≡ self.old.process }
+    {
+        if let Err(fault) = self.wants_rollback(ticket.number()) {
+            return Err((ticket, fault));
+        }
+        ticket.spend();
+        self.phase = Phase::Parked;
+        Ok(())
+    }
+
+    /// Takes a parked rollback up again, and gives its ticket.
+    pub(crate) fn resume(&mut self) -> Result<Ticket, Fault>
+        ensures comes { Resumes (sheet_of self.old) result (sheet_of self.new) }
+        ensures process { self.new.process ≡ self.old.process }
+    {
+        self.wants(Phase::Parked)?;
+        self.phase = Phase::Undoing;
+        Ok(Ticket::new(self.current()))
+    }
+}
