@@ -1,14 +1,20 @@
 -- What the calls that give or end a ticket answer, and what they leave. Assumes nothing.
-use Rattle.std.specs.Prelude.{◌≡◌, ℕ, Ok, Err, Option, Result, IfErr}
-use Rattle.values.specs.Checks.{answer, after}
+use Rattle.std.specs.Prelude.{◌≡◌, ℕ, List, [], ◌∷◌, Ok, Err, Option, Result, IfErr}
+use Rattle.values.specs.Checks.{answer, after, bad_at}
+use Rattle.values.specs.declared.Cause.TheVariants.{DueAfter}
+use Rattle.values.specs.declared.HostState.TheVariants.{Reversed}
+use Rattle.values.specs.declared.Layer.TheVariants.{Sheet as OfSheet}
+use Rattle.values.specs.declared.RowState.TheVariants.{Due, Undone}
+use Rattle.host.specs.Keys.{key_of}
 use Rattle.values.specs.declared.Phase.TheVariants.{Undoing}
 use Rattle.values.specs.declared.Fault.{Fault}
 use Rattle.values.specs.declared.Mode.{Mode}
 use Rattle.values.specs.declared.TicketNumber.{TicketNumber}
-use Rattle.host.specs.View.{View}
+use Rattle.host.specs.View.{View, moved}
 use Rattle.model.specs.Chart.{Chart}
-use Rattle.model.specs.Sheet.{Sheet, aborted, ticket_of, with_phase}
-use Rattle.model.specs.Calls.{abort_fault, all_dropped, resume_fault}
+use Rattle.model.specs.Sheet.{Sheet, aborted, ticket_of, with_phase, with_rows}
+use Rattle.model.specs.Rows.{marked}
+use Rattle.model.specs.Calls.{abort_fault, all_dropped, phase_check, ticket_check, row_check, due_after, undo_fault, resume_fault}
 use Rattle.sheet.specs.declared.ticket.Ticket.{Ticket}
 use Rattle.sheet.specs.Calls.{Comes}
 
@@ -21,6 +27,16 @@ numbers_of (Err f) = Err f
 abbrev pub Aborts : Chart → Sheet → View → Mode → ℕ → ℕ → Result Ticket Fault → Sheet → View → Type 0
 Aborts c s v m column line r =
     Comes (abort_fault s v m column line) (ticket_of (aborted c s m)) s (aborted c s m) v (all_dropped s.rows v) (numbers_of r)
+
+-- the checks of undo between that of the memory and those of the host
+abbrev pub undo_own_checks : Sheet → TicketNumber → ℕ → List (Option Fault)
+undo_own_checks s t k =
+    phase_check s Undoing ∷ ticket_check s t ∷ row_check s.rows Due k ∷ bad_at (due_after s.rows k) DueAfter OfSheet ∷ []
+
+-- a due row undone, also at the host; in memory of these lengths
+abbrev pub Undoes : Sheet → View → TicketNumber → ℕ → ℕ → ℕ → Result (Unit {0}) Fault → Sheet → View → Type 0
+Undoes s v t k column line =
+    Comes (undo_fault s v t k column line) tt s (with_rows s (marked s.rows k Undone)) v (moved Reversed v (key_of k))
 
 -- the fault of a declined call, without the ticket that it hands back
 abbrev pub fault_only : Result (Unit {0}) (Ticket × Fault) → Result (Unit {0}) Fault

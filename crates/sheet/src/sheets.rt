@@ -11,6 +11,7 @@ mod ends;
 mod phases;
 mod reads;
 mod starts;
+mod undos;
 
 /// The sheet of one competition: the process that it follows, its rows, and where it stands.
 // no `Model`: its value can hold no functions, and the model's sheet has its rows as functions of their numbers

@@ -1,0 +1,68 @@
+-- The memory first, then the checks of undo, and then those of the host.
+use Rattle.std.proofs.Common.{length, sym, refl, ◌∙◌, subst, rules}
+use mathlib.Core.Logic.{∥∥₁_map}
+use Rattle.values.specs.declared.HostState.TheVariants.{Standing}
+use Rattle.values.specs.declared.RowState.TheVariants.{Due, Undone}
+use Rattle.host.specs.Keys.{key_of}
+use Rattle.host.specs.View.{move_checks}
+use Rattle.model.specs.Calls.{memory_check}
+use Rattle.model.specs.Sheets.{Kept}
+use Rattle.model.proofs.Accepted.{undo_due}
+use Rattle.model.proofs.Kept.{on_undo}
+use Rattle.sheet.specs.SheetOf.{sheet_of, chart_of}
+use Rattle.sheet.specs.Tickets.{undo_own_checks}
+use Rattle.sheet.proofs.Comings.{own_declines, host_declines, both_accept, passed_first, none_declines, other_rows, put_into}
+use Rattle.sheet.proofs.sheets.Sheet.undo.Goals as goal
+
+pub returns-in_err-may_undo-clause-comes : goal.returns-in_err-may_undo-clause-comes
+returns-in_err-may_undo-clause-comes g c =
+    let s = sheet_of c.args.self.now in
+    let own = undo_own_checks s c.args.ticket.now.number c.args.row in
+    let asked = move_checks Standing (g.X.Host.view c.args.host.now) (key_of c.args.row) in
+    let fails = simp c.number.ensures at c.in_err-may_undo.ensures in
+    passed_first (memory_check (length c.args.column.now) (length c.args.line.now)) _ c.in_ok-wants_memory.ensures
+    (own_declines own asked fails.checks (search rules) refl refl)
+
+pub returns-in_err-undo-clause-comes : goal.returns-in_err-undo-clause-comes
+returns-in_err-undo-clause-comes g c =
+    let s = sheet_of c.args.self.now in
+    let own = undo_own_checks s c.args.ticket.now.number c.args.row in
+    let asked = move_checks Standing (g.X.Host.view c.args.host.now) (key_of c.args.row) in
+    let passes = simp c.number.ensures at c.in_ok-may_undo.ensures in
+    let b = simp c.row_key.ensures at c.in_err-undo.ensures in
+    passed_first (memory_check (length c.args.column.now) (length c.args.line.now)) _ c.in_ok-wants_memory.ensures
+    (host_declines own asked passes.checks b.answers (search rules) refl b.shows)
+
+pub invariant_of-self : goal.invariant_of-self
+invariant_of-self g c =
+    let s = sheet_of c.args.self.now in
+    let v = g.X.Host.view c.args.host.now in
+    let t = c.args.ticket.now.number in
+    let k = c.args.row in
+    let passes = simp c.number.ensures at c.in_ok-may_undo.ensures in
+    let b = simp c.row_key.ensures at c.in_ok-undo.ensures in
+    let none = none_declines (undo_own_checks s t k) (move_checks Standing v (key_of k)) passes.checks b.answers in
+    let is = other_rows c.args.self.now c.set_state.new.self _
+    (c.set_state.ensures.rows ∙ put_into s.rows k Due Undone (undo_due s v t k 257 256 none) refl)
+    c.set_state.ensures.rolled in
+    record {
+      kept = ∥∥₁_map c.args.self.now.kept
+          (λ kept. subst Kept (sym is) (on_undo (chart_of c.args.self.now) s v kept t k 257 256 none));
+    }
+
+pub returns-clause-comes : goal.returns-clause-comes
+returns-clause-comes g c =
+    let s = sheet_of c.args.self.now in
+    let v = g.X.Host.view c.args.host.now in
+    let t = c.args.ticket.now.number in
+    let k = c.args.row in
+    let own = undo_own_checks s t k in
+    let asked = move_checks Standing v (key_of k) in
+    let passes = simp c.number.ensures at c.in_ok-may_undo.ensures in
+    let b = simp c.row_key.ensures at c.in_ok-undo.ensures in
+    let none = none_declines own asked passes.checks b.answers in
+    let is = other_rows c.args.self.now c.set_state.new.self _
+    (c.set_state.ensures.rows ∙ put_into s.rows k Due Undone (undo_due s v t k 257 256 none) refl)
+    c.set_state.ensures.rolled in
+    passed_first (memory_check (length c.args.column.now) (length c.args.line.now)) _ c.in_ok-wants_memory.ensures
+    (both_accept own asked passes.checks b.answers refl is b.shows)
