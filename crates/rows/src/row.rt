@@ -1,4 +1,6 @@
 // What a row holds.
+ghost use Rattle.std.specs.Prelude.{◌≡◌, take};
+
 use arrayvec::ArrayVec;
 use values::{Entry, RowState};
 
@@ -12,4 +14,11 @@ pub struct Row {
     pub state: RowState,
     // The model's column has 0 where no rollback did; an Option would be turned into that wherever it is read.
     pub rolled: u16,
+}
+
+/// The first eight of a list.
+pub fn first_eight(list: &[u16]) -> ArrayVec<u16, 8>
+    ensures { result.items ≡ take 8 list.now }
+{
+    ArrayVec::try_from(&list[..list.len().min(8)]).unwrap()
 }

@@ -6,8 +6,7 @@ ghost use Rattle.rows.specs.Columns.{fits};
 ghost use Rattle.rows.specs.Tables.{rows_of, rolled_of};
 
 use super::{MOST_ROWS, RowTable, Unfit};
-use crate::row::Row;
-use arrayvec::ArrayVec;
+use crate::row::{Row, first_eight};
 use std::alloc::{AllocError, Global};
 use values::{Entry, RowState};
 
@@ -57,12 +56,9 @@ impl RowTable {
         if !self.fits(predecessors) {
             return Err(Unfit);
         }
-        let Ok(predecessors) = ArrayVec::try_from(predecessors) else {
-            return Err(Unfit);
-        };
         self.rows.push_reserved(Row {
             step,
-            predecessors,
+            predecessors: first_eight(predecessors),
             entry,
             state: RowState::Running,
             rolled: 0,

@@ -1,5 +1,6 @@
 -- One row added: it follows only rows that are there.
-use Rattle.std.proofs.Common.{◌≡◌, ℕ, ◌<◌, ◌≤◌, true, false, not, ◌&&◌, ltb, leb, List, length, sym, ap, ◌∙◌, subst, inl, inr, rules, tests, arith}
+use Rattle.std.proofs.Common.{◌≡◌, ℕ, ◌<◌, ◌≤◌, true, false, not, ◌&&◌, ltb, leb, List, length, sym, ap, ◌∙◌, subst, inl, inr, arith}
+use Rattle.std.proofs.lemmas.List.{take_all}
 use Rattle.std.proofs.lemmas.Bool.{and_parts, leb-true, ltb-true, both_ways, not-true, cases_Bool, not_from_false}
 use Rattle.model.specs.Search.{any, has}
 use Rattle.model.proofs.Basics.{any_in}
@@ -42,12 +43,12 @@ invariant_of-self c =
     let fs = c.args.predecessors.now in
     let f = fitting rows fs (sym c.if-not-fits.ensures) in
     let p = c.push_reserved.ensures in
-    let e : c.in-Ok.predecessors.items ≡ fs = search (rules, tests) in
+    let e : c.first_eight.result.items ≡ fs = c.first_eight.ensures ∙ take_all 8 fs f.few in
     record {
       lower = subst (λ (xs : List Row). Lower (preds_of xs)) (sym p.items)
-          (lower_added rows c.args.step c.in-Ok.predecessors fs c.args.entry e s.lower (λ x m. (f.inside x m).1));
+          (lower_added rows c.args.step c.first_eight.result fs c.args.entry e s.lower (λ x m. (f.inside x m).1));
       positive = subst (λ (xs : List Row). Positive (preds_of xs)) (sym p.items)
-          (positive_added rows c.args.step c.in-Ok.predecessors fs c.args.entry e s.positive (λ x m. (f.inside x m).0));
+          (positive_added rows c.args.step c.first_eight.result fs c.args.entry e s.positive (λ x m. (f.inside x m).0));
       few = omega (arith, p.len, f.place, s.rows.ok.0);
       reserved = omega (arith, p.capacity, s.reserved);
     }
@@ -60,10 +61,10 @@ returns c =
     let ok = sym c.if-not-fits.ensures in
     let f = fitting rows fs ok in
     let p = c.push_reserved.ensures in
-    let e : c.in-Ok.predecessors.items ≡ fs = search (rules, tests) in
+    let e : c.first_eight.result.items ≡ fs = c.first_eight.ensures ∙ take_all 8 fs f.few in
     record {
       fits = sym ok;
-      rows = ap columns p.items ∙ columns_added rows c.args.step c.in-Ok.predecessors fs c.args.entry e;
+      rows = ap columns p.items ∙ columns_added rows c.args.step c.first_eight.result fs c.args.entry e;
       rolled = ap {B = ℕ → ℕ} (λ (xs : List Row) k. (row_at xs k).rolled) p.items
-          ∙ rolled_added rows c.args.step c.in-Ok.predecessors fs c.args.entry e;
+          ∙ rolled_added rows c.args.step c.first_eight.result fs c.args.entry e;
     }
