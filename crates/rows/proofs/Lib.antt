@@ -1,7 +1,6 @@
 pub mod Aborts
 pub mod Arrows
 pub mod Below
-pub mod Clearing
 pub mod Columns
 pub mod Falls
 pub mod Later

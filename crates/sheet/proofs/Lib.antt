@@ -4,3 +4,4 @@ pub mod Searching
 pub mod Starting
 pub mod Rolling
 pub mod Phases
+pub mod Clearing

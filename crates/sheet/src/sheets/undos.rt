@@ -3,7 +3,8 @@ ghost use Rattle.std.specs.Prelude.{◌≡◌, true, false, [], ◌∷◌, lengt
 ghost use Rattle.values.specs.Checks.{answer, first_fault};
 ghost use Rattle.graph.specs.Held.{held};
 ghost use Rattle.graph.specs.Scratch.{SameLoans};
-ghost use Rattle.process.specs.Accepted.{enough, Left};
+ghost use Rattle.process.specs.Accepted.{enough};
+ghost use Rattle.model.specs.Run.{column_after};
 ghost use Rattle.sheet.specs.SheetOf.{sheet_of};
 ghost use Rattle.sheet.specs.Tickets.{undo_own_checks, Undoes};
 
@@ -42,7 +43,7 @@ impl Sheet {
         ensures comes { Undoes (sheet_of self.old) (X.Host.view host.old) ticket.now.number row
             (length column.old) (length line.old) result (sheet_of self.new) (X.Host.view host.new) }
         ensures process { self.new.process ≡ self.old.process }
-        ensures column { Left (enough (length column.old) (length line.old)) column.old column.new }
+        ensures column { column.new ≡ column_after column.old (length line.old) }
         ensures line { enough (length column.old) (length line.old) ≡ false → line.new ≡ line.old }
     {
         wants_memory(column, line)?;

@@ -11,6 +11,7 @@ use Rattle.model.proofs.Accepted.{undo_due}
 use Rattle.model.proofs.Kept.{on_undo}
 use Rattle.sheet.specs.SheetOf.{sheet_of, chart_of}
 use Rattle.sheet.specs.Tickets.{undo_own_checks}
+use Rattle.sheet.proofs.Clearing.{left_cleared}
 use Rattle.sheet.proofs.Comings.{own_declines, host_declines, both_accept, passed_first, none_declines, other_rows, put_into}
 use Rattle.sheet.proofs.sheets.Sheet.undo.Goals as goal
 
@@ -66,3 +67,12 @@ returns-clause-comes g c =
     c.set_state.ensures.rolled in
     passed_first (memory_check (length c.args.column.now) (length c.args.line.now)) _ c.in_ok-wants_memory.ensures
     (both_accept own asked passes.checks b.answers refl is b.shows)
+
+pub returns-in_err-may_undo-clause-column : goal.returns-in_err-may_undo-clause-column
+returns-in_err-may_undo-clause-column g c = left_cleared c.args.column.now (length c.args.line.now) (search rules)
+
+pub returns-in_err-undo-clause-column : goal.returns-in_err-undo-clause-column
+returns-in_err-undo-clause-column g c = left_cleared c.args.column.now (length c.args.line.now) (search rules)
+
+pub returns-clause-column : goal.returns-clause-column
+returns-clause-column g c = left_cleared c.args.column.now (length c.args.line.now) (search rules)
