@@ -4,3 +4,4 @@ pub mod SheetOf
 pub mod Candidates
 pub mod Calls
 pub mod Tickets
+pub mod Reports
