@@ -21,15 +21,15 @@ listing_fault_in c s column line arrows restarts =
 
 -- a listing, in a column and a line of these lengths: how many arrows and restart points stand at the beginning of the two
 -- tables; the rest of both is kept, and a declined listing leaves both as they were
-pub record Lists (c : Chart) (s : Sheet) (column line : ℕ) (arrows : List RowArrow) (restarts : List ℕ) (r : Result (ℕ × ℕ) Fault) (arrows' : List RowArrow) (restarts' : List ℕ) : Type 0 where
-  pub answers : r ≡ answer (listing_fault_in c s column line (length arrows) (length restarts))
+pub record Lists (c : Chart) (s : Sheet) (column line : ℕ) (arrows : List RowArrow) (points : List ℕ) (r : Result (ℕ × ℕ) Fault) (arrows' : List RowArrow) (points' : List ℕ) : Type 0 where
+  pub answers : r ≡ answer (listing_fault_in c s column line (length arrows) (length points))
       (length (graph_arrows s), length (points_of c s))
-  pub arrows : arrows' ≡ after (listing_fault_in c s column line (length arrows) (length restarts)) arrows
+  pub arrow_table : arrows' ≡ after (listing_fault_in c s column line (length arrows) (length points)) arrows
       (over (graph_arrows s) arrows)
-  pub restarts : restarts' ≡ after (listing_fault_in c s column line (length arrows) (length restarts)) restarts
-      (over (points_of c s) restarts)
+  pub point_table : points' ≡ after (listing_fault_in c s column line (length arrows) (length points)) points
+      (over (points_of c s) points)
 
 -- a reply of 32 bytes at a place of a buffer; all other bytes are kept
 pub record Replies (c : Chart) (s : Sheet) (place : ℕ) (buffer : List ℕ) (r : Result (Unit {0}) Fault) (buffer' : List ℕ) : Type 0 where
   pub answers : r ≡ answer (reply_fault place (length buffer)) tt
-  pub buffer : buffer' ≡ after (reply_fault place (length buffer)) buffer (written_at place (reply_of c s) buffer)
+  pub bytes : buffer' ≡ after (reply_fault place (length buffer)) buffer (written_at place (reply_of c s) buffer)
