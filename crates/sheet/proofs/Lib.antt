@@ -5,3 +5,5 @@ pub mod Starting
 pub mod Rolling
 pub mod Phases
 pub mod Clearing
+pub mod Running
+pub mod Going

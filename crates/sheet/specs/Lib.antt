@@ -5,3 +5,6 @@ pub mod Candidates
 pub mod Calls
 pub mod Tickets
 pub mod Reports
+pub mod Lent
+pub mod Happenings
+pub mod Runs

@@ -1,5 +1,5 @@
 // Calls as values.
-use values::{Entry, Mode, TicketNumber};
+use values::{Answer, Entry, Mode, TicketNumber};
 
 /// The lengths of the memory that is lent to calls.
 #[derive(Clone, Copy, PartialEq, Eq, Debug, Drop)]
@@ -52,4 +52,11 @@ pub enum Event<C> {
     Control {
         command: C,
     },
+}
+
+/// What came of an event: its answer, and whether the host was shut then.
+#[derive(Clone, Copy, PartialEq, Eq, Debug, Drop)]
+pub struct Taken {
+    pub answer: Answer,
+    pub shut: bool,
 }

@@ -4,9 +4,12 @@
 mod charts;
 mod events;
 mod memory;
+mod replay;
 mod sheets;
 mod ticket;
 
-pub use events::{Event, Sizes};
+pub use events::{Event, Sizes, Taken};
+pub use memory::Memory;
+pub use replay::Competition;
 pub use sheets::Sheet;
 pub use ticket::Ticket;

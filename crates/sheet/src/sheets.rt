@@ -8,8 +8,10 @@ use values::{Mode, Phase};
 
 mod aborts;
 mod ends;
+mod listings;
 mod phases;
 mod reads;
+mod replies;
 mod starts;
 mod undos;
 

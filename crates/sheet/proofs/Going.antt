@@ -1,0 +1,67 @@
+-- What events carry on. Assumes nothing.
+use Rattle.std.proofs.Common.{◌≡◌, ℕ, zero, suc, ◌+◌, ◌<◌, ◌≤◌, List, [], ◌∷◌, ◌++◌, length, get_or, sym, refl, ap, ◌∙◌, subst, arith}
+use Rattle.std.proofs.lemmas.List.{append-nil, append_assoc, length_push}
+use Rattle.values.specs.declared.Answer.{Answer}
+use Rattle.model.specs.Chart.{Chart}
+use Rattle.model.specs.Run.{World, Event as Happening, does, History, Leads, nothing, one_more}
+use Rattle.model.proofs.Law.{law_over_every_run}
+use Rattle.sheet.specs.declared.events.Event.{Event}
+use Rattle.sheet.specs.declared.events.Taken.{Taken}
+use Rattle.sheet.specs.Happenings.{happening, history_of}
+use Rattle.sheet.specs.Runs.{Does, GoesOn}
+
+-- one history after another
+leads_on : (c : Chart) (first : World) {g : History} {w : World} {h : History} {w' : World}
+    → Leads c first g w → Leads c w h w' → Leads c first (g ++ h) w'
+leads_on c first {g} {w} p nothing = subst (λ x. Leads c first x w) (sym (append-nil g)) p
+leads_on c first {g} {w} p (one_more {h = h} {w = v} q e) =
+    subst (λ x. Leads c first x (does c v e).0) (append_assoc g h ((e, (does c v e).1) ∷ [])) (one_more (leads_on c first p q) e)
+
+-- where each answer is the one that the definitions name, the law is carried on
+pub goes_on : (c : Chart) (w : World) {h : History} {w' : World} → Leads c w h w' → GoesOn c w h w'
+goes_on c w {h} {w'} q = record {
+  leads = q;
+  law = λ serial v l fresh sound g p. law_over_every_run c serial v l fresh sound (g ++ h) w' (leads_on c _ p q);
+}
+
+-- one event
+pub goes_one : (c : Chart) (w : World) (e : Happening) (a : Answer) (w' : World) → Does c w e a w' → GoesOn c w ((e, a) ∷ []) w'
+goes_one c w e a w' h = goes_on c w (subst (λ (x : World × Answer). Leads c w ((e, x.1) ∷ []) x.0) h (one_more nothing e))
+
+module _ {C : Type 0} where
+  -- one event more of a list
+  history_more : (es : List (Event C)) (ts : List Taken) (t : Taken) (e : Event C) → length ts < length es
+      → e ≡ get_or es (length ts) e
+      → history_of es (ts ++ t ∷ []) ≡ history_of es ts ++ history_of (e ∷ []) (t ∷ [])
+  history_more [] ts t e low at = absurd (omega (arith, low))
+  history_more (x ∷ es) [] t e low at = ap (λ y. (happening t.shut y, t.answer) ∷ []) (sym at)
+  history_more (x ∷ es) (u ∷ ts) t e low at =
+      ap (λ h. (happening u.shut x, u.answer) ∷ h) (history_more es ts t e (omega (arith, low)) at)
+
+  -- the first events of a list were taken, as many as it was told of
+  pub record Gone (c : Chart) (first : World) (es : List (Event C)) (at : ℕ) (ts : List Taken) (w : World) : Type 0 where
+    pub few : at ≤ length es
+    pub told : length ts ≡ at
+    pub leads : Leads c first (history_of es ts) w
+
+  pub gone_first : (c : Chart) (first : World) (es : List (Event C)) (ts : List Taken) → ts ≡ [] → Gone c first es 0 ts first
+  gone_first c first es ts none = record {
+    few = omega arith;
+    told = ap length none;
+    leads = subst (λ (x : List Taken). Leads c first (history_of es x) first) (sym none) nothing;
+  }
+
+  pub gone_more : (c : Chart) (first : World) (es : List (Event C)) (at : ℕ) (ts : List Taken) (w : World) (e : Event C) (ts' : List Taken) (t : Taken) (w' : World)
+      → at < length es → e ≡ get_or es at e → Gone c first es at ts w → ts' ≡ ts ++ t ∷ []
+      → {p : Chart} → p ≡ c → GoesOn p w (history_of (e ∷ []) (t ∷ [])) w'
+      → Gone c first es (at + 1) ts' w'
+  gone_more c first es at ts w e ts' t w' low is gone more {p} same one =
+      let leads : Leads c w (history_of (e ∷ []) (t ∷ [])) w' = subst (λ x. Leads x w (history_of (e ∷ []) (t ∷ [])) w') same one.leads in
+      let below : length ts < length es = omega (arith, low, gone.told) in
+      let here : e ≡ get_or es (length ts) e = subst (λ n. e ≡ get_or es n e) (sym gone.told) is in
+      record {
+        few = omega (arith, low);
+        told = ap length more ∙ length_push ts t ∙ ap (λ n. n + 1) gone.told;
+        leads = subst (λ (x : List Taken). Leads c first (history_of es x) w') (sym more)
+            (subst (λ h. Leads c first h w') (sym (history_more es ts t e below here)) (leads_on c first gone.leads leads));
+      }

@@ -1,0 +1,40 @@
+-- One event more leads on.
+use Rattle.std.proofs.Common.{◌≡◌, refl, sym, ap, ◌∙◌, subst, arith}
+use Rattle.sheet.specs.Runs.{world_of, process_of}
+use Rattle.sheet.proofs.Going.{Gone, goes_on, gone_first, gone_more}
+use Rattle.sheet.proofs.replay.Competition.replay.Goals as goal
+
+pub loop-event-init : goal.loop-event-init
+loop-event-init g c = (gone_first _ _ c.args.events.now c.new-taken.result.items c.new-taken.ensures.items, refl)
+
+pub loop-event-preserved : goal.loop-event-preserved
+loop-event-preserved g c =
+    let view = g.X.Host.view in
+    let x = c.args.self.now in
+    let (t, more, one) = c.in_default.ensures.goes in
+    (gone_more (process_of x) (world_of view x) c.args.events.now c.loop-event.event-index c.loop-event.taken.items (world_of view c.loop-event.self)
+    c.event-item.result c.take_into.new.taken.items t (world_of view c.take_into.new.self)
+    c.loop-event-test.true c.event-item.is c.loop-event.invariant.0 more c.loop-event.invariant.1 one,
+    c.in_default.ensures.process ∙ c.loop-event.invariant.1)
+
+pub returns-in-Err-clause-goes : goal.returns-in-Err-clause-goes
+returns-in-Err-clause-goes g c =
+    rw (c.in-Err.ensures.same, c.in-Err.ensures.kept)
+    (goes_on (process_of c.args.self.now) (world_of g.X.Host.view c.args.self.now) c.loop-event.invariant.0.leads)
+
+pub returns-in-Err-clause-some : goal.returns-in-Err-clause-some
+returns-in-Err-clause-some g c =
+    rw c.in-Err.ensures.kept (let so_far = c.loop-event.invariant.0 in omega (arith, so_far.few, so_far.told))
+
+pub returns-in-Err-clause-process : goal.returns-in-Err-clause-process
+returns-in-Err-clause-process g c = c.in-Err.ensures.process ∙ c.loop-event.invariant.1
+
+pub returns-clause-goes : goal.returns-clause-goes
+returns-clause-goes g c =
+    goes_on (process_of c.args.self.now) (world_of g.X.Host.view c.args.self.now) c.loop-event.invariant.0.leads
+
+pub returns-clause-all : goal.returns-clause-all
+returns-clause-all g c _ = let so_far = c.loop-event.invariant.0 in omega (arith, so_far.few, so_far.told, c.loop-event-test.false)
+
+pub returns-clause-some : goal.returns-clause-some
+returns-clause-some g c = let so_far = c.loop-event.invariant.0 in omega (arith, so_far.few, so_far.told)

@@ -1,0 +1,28 @@
+-- A competition as a world of the model, and what an event or a list of events carries on. Assumes nothing.
+use Rattle.std.specs.Prelude.{◌≡◌, ℕ, List, [], ◌∷◌, ◌++◌}
+use Rattle.values.specs.declared.Answer.{Answer}
+use Rattle.host.specs.View.{View, Fresh, Sound}
+use Rattle.model.specs.Chart.{Chart}
+use Rattle.model.specs.Run.{World, Lent, Event, does, world, History, Leads, opening}
+use Rattle.model.specs.Histories.{LawfulHistory}
+use Rattle.sheet.specs.SheetOf.{sheet_of, chart_of}
+use Rattle.sheet.specs.Lent.{lent_of}
+use Rattle.sheet.specs.declared.replay.Competition.{Competition}
+
+-- its sheet, what its host shows, and its memory
+abbrev pub world_of : {X : Type 0} → (X → View) → Competition X → World
+world_of view x = world (sheet_of x.sheet) (view x.host) (lent_of x.memory)
+
+abbrev pub process_of : {X : Type 0} → Competition X → Chart
+process_of x = chart_of x.sheet
+
+-- an event got the answer that the definitions name, and left the world that they name
+abbrev pub Does : Chart → World → Event → Answer → World → Type 0
+Does c before e a then = does c before e ≡ (then, a)
+
+-- the history h leads on from one world to another; and whatever run from a blank sheet at a fresh host came to the first of
+-- them, the law over every run holds of all of it, h included
+pub record GoesOn (c : Chart) (before : World) (h : History) (then : World) : Type 0 where
+  pub leads : Leads c before h then
+  pub law : (serial : ℕ) (v : View) (l : Lent) → Fresh v → Sound v → (g : History)
+      → Leads c (opening serial v l) g before → LawfulHistory c (opening serial v l) (g ++ h) then
