@@ -1,5 +1,5 @@
 -- What a switch and a pair show, by what the hosts below them show. Assumes nothing.
-use Rattle.std.specs.Prelude.{◌≡◌, Bool, true, false, cond, not, ◌||◌}
+use Rattle.std.specs.Prelude.{◌≡◌, Bool, true, false, cond, not, ◌||◌, List, ◌∷◌, ◌++◌}
 use Rattle.values.specs.Numbers.{same_kind}
 use Rattle.values.specs.declared.Kind.{Kind}
 use Rattle.host.specs.View.{View, is_unknown, shut_as}
@@ -50,13 +50,20 @@ abbrev pub pair_shuts : {X Y C D : Type 0} → (X → View) → (X → C → Boo
 pair_shuts first_view first_shuts second_view second_shuts p (First c) = first_shuts p.first c || (second_view p.second).shut
 pair_shuts first_view first_shuts second_view second_shuts p (Second c) = (first_view p.first).shut || second_shuts p.second c
 
+-- how the switches stand: that of a switch before those below it, and those of a pair's first host before those of its second
+abbrev pub switch_switches : {X : Type 0} → (X → List Bool) → Switch X → List Bool
+switch_switches below s = s.on ∷ below s.inner
+
+abbrev pub pair_switches : {X Y : Type 0} → (X → List Bool) → (Y → List Bool) → Pair X Y → List Bool
+pair_switches first second p = first p.first ++ second p.second
+
 -- what a command leaves of a switch: turning it leaves the host below as it is, and a command for that host leaves the switch
-abbrev pub SwitchLeft : {X C : Type 0} → SwitchCommand C → Switch X → Switch X → Type 0
-SwitchLeft On s t = (t.inner ≡ s.inner) × (t.on ≡ true)
-SwitchLeft Off s t = (t.inner ≡ s.inner) × (t.on ≡ false)
-SwitchLeft (Below c) s t = t.on ≡ s.on
+abbrev pub SwitchLeft : {X C : Type 0} → (X → C → X → Type 0) → Switch X → SwitchCommand C → Switch X → Type 0
+SwitchLeft below s On t = (t.inner ≡ s.inner) × (t.on ≡ true)
+SwitchLeft below s Off t = (t.inner ≡ s.inner) × (t.on ≡ false)
+SwitchLeft below s (Below c) t = (t.on ≡ s.on) × below s.inner c t.inner
 
 -- what a command for one host of a pair leaves: the kind and the other host
-abbrev pub PairLeft : {X Y C D : Type 0} → PairCommand C D → Pair X Y → Pair X Y → Type 0
-PairLeft (First c) p q = (q.kind ≡ p.kind) × (q.second ≡ p.second)
-PairLeft (Second c) p q = (q.kind ≡ p.kind) × (q.first ≡ p.first)
+abbrev pub PairLeft : {X Y C D : Type 0} → (X → C → X → Type 0) → (Y → D → Y → Type 0) → Pair X Y → PairCommand C D → Pair X Y → Type 0
+PairLeft first second p (First c) q = (q.kind ≡ p.kind) × (q.second ≡ p.second) × first p.first c q.first
+PairLeft first second p (Second c) q = (q.kind ≡ p.kind) × (q.first ≡ p.first) × second p.second c q.second

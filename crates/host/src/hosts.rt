@@ -1,5 +1,5 @@
 // What a host is, and what shuts and opens one between calls.
-ghost use Rattle.std.specs.Prelude.{◌≡◌, Bool};
+ghost use Rattle.std.specs.Prelude.{◌≡◌, Bool, List};
 ghost use Rattle.values.specs.Checks.{answer, first_fault};
 ghost use Rattle.values.specs.declared.HostState.TheVariants.{Open, Standing, Void, Reversed};
 ghost use Rattle.host.specs.View.{View, Sound, Begins, Moves, Between, begin_checks, move_checks};
@@ -12,21 +12,28 @@ use values::{Cause, Entry, Fault, HostState, Kind};
 pub trait Host {
     ghost view: { Self → View };
 
+    // how the switches stand that shut it, first to last; no call turns one
+    ghost switches: { Self → List Bool };
+
     /// Begins an unknown row: it is open, with this entry.
     fn begin(&mut self, row: RowKey, entry: Entry) -> Result<(), Fault>
-        ensures { Begins (view self.old) row entry result (view self.new) };
+        ensures does { Begins (view self.old) row entry result (view self.new) }
+        ensures switches { switches self.new ≡ switches self.old };
 
     /// Makes an open row stand.
     fn commit(&mut self, row: RowKey) -> Result<(), Fault>
-        ensures { Moves Open Standing (view self.old) row result (view self.new) };
+        ensures does { Moves Open Standing (view self.old) row result (view self.new) }
+        ensures switches { switches self.new ≡ switches self.old };
 
     /// Makes an open row void.
     fn drop_row(&mut self, row: RowKey) -> Result<(), Fault>
-        ensures { Moves Open Void (view self.old) row result (view self.new) };
+        ensures does { Moves Open Void (view self.old) row result (view self.new) }
+        ensures switches { switches self.new ≡ switches self.old };
 
     /// Undoes a standing row.
     fn undo(&mut self, row: RowKey) -> Result<(), Fault>
-        ensures { Moves Standing Reversed (view self.old) row result (view self.new) };
+        ensures does { Moves Standing Reversed (view self.old) row result (view self.new) }
+        ensures switches { switches self.new ≡ switches self.old };
 
     /// Whether the host is shut.
     fn is_shut(&self) -> bool

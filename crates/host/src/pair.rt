@@ -2,7 +2,7 @@
 ghost use Rattle.std.specs.Prelude.{◌≡◌};
 ghost use Rattle.values.specs.Numbers.{same_kind};
 ghost use Rattle.host.specs.Calls.{Makes};
-ghost use Rattle.host.specs.Views.{joined, pair_view, for_first, pair_shuts, PairLeft};
+ghost use Rattle.host.specs.Views.{joined, pair_view, pair_switches, for_first, pair_shuts, PairLeft};
 ghost use Rattle.std.proofs.Common.{rules};
 
 use crate::calls::Call;
@@ -28,6 +28,8 @@ pub enum PairCommand<C, D> {
 
 impl<X: Host, Y: Host> Host for Pair<X, Y> {
     ghost view = { pair_view X.Host.view Y.Host.view };
+
+    ghost switches = { pair_switches X.Host.switches Y.Host.switches };
 
     ghost sound = { Prim.search rules };
 
@@ -83,7 +85,7 @@ impl<X: Controls, Y: Controls> Controls for Pair<X, Y> {
 
     ghost shuts = { pair_shuts X.Host.view X.Controls.shuts Y.Host.view Y.Controls.shuts };
 
-    ghost leaves = { λ p command q. PairLeft command p q };
+    ghost leaves = { PairLeft X.Controls.leaves Y.Controls.leaves };
 
     fn control(&mut self, command: PairCommand<X::Command, Y::Command>) -> bool {
         match command {
@@ -134,7 +136,8 @@ impl<X: Host, Y: Host> Pair<X, Y> {
 
     // Makes a call at the host that it is for, unless the pair is shut.
     fn pass(&mut self, call: Call) -> Result<(), Fault>
-        ensures { Makes (pair_view X.Host.view Y.Host.view self.old) call result (pair_view X.Host.view Y.Host.view self.new) }
+        ensures makes { Makes (pair_view X.Host.view Y.Host.view self.old) call result (pair_view X.Host.view Y.Host.view self.new) }
+        ensures switches { pair_switches X.Host.switches Y.Host.switches self.new ≡ pair_switches X.Host.switches Y.Host.switches self.old }
     {
         if self.is_shut() {
             return declined(Cause::ShutHost, call.row());

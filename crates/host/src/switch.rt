@@ -1,7 +1,7 @@
 // A host with a switch: while it is off, the host is shut.
 ghost use Rattle.std.specs.Prelude.{◌≡◌, true};
 ghost use Rattle.host.specs.Calls.{Makes};
-ghost use Rattle.host.specs.Views.{switch_view, switch_shuts, SwitchLeft};
+ghost use Rattle.host.specs.Views.{switch_view, switch_switches, switch_shuts, SwitchLeft};
 ghost use Rattle.std.proofs.Common.{rules};
 
 use crate::calls::Call;
@@ -27,6 +27,8 @@ pub enum SwitchCommand<C> {
 
 impl<X: Host> Host for Switch<X> {
     ghost view = { switch_view X.Host.view };
+
+    ghost switches = { switch_switches X.Host.switches };
 
     ghost sound = { Prim.search rules };
 
@@ -69,7 +71,7 @@ impl<X: Controls> Controls for Switch<X> {
 
     ghost shuts = { switch_shuts X.Host.view X.Controls.shuts };
 
-    ghost leaves = { λ s command t. SwitchLeft command s t };
+    ghost leaves = { SwitchLeft X.Controls.leaves };
 
     fn control(&mut self, command: SwitchCommand<X::Command>) -> bool {
         match command {
@@ -95,7 +97,8 @@ impl<X: Host> Switch<X> {
 
     // Makes a call at the host below, unless the switch is off.
     fn pass(&mut self, call: Call) -> Result<(), Fault>
-        ensures { Makes (switch_view X.Host.view self.old) call result (switch_view X.Host.view self.new) }
+        ensures makes { Makes (switch_view X.Host.view self.old) call result (switch_view X.Host.view self.new) }
+        ensures switches { switch_switches X.Host.switches self.new ≡ switch_switches X.Host.switches self.old }
     {
         if self.on {
             call.make(&mut self.inner)

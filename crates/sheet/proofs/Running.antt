@@ -59,8 +59,10 @@ listing_decides : (f : Option Fault) (c : Chart) (s : Sheet) (v : View) (l : Len
     → r ≡ answer f (length (graph_arrows s), length (points_of c s))
     → bs' ≡ after f l.arrows (over (graph_arrows s) l.arrows) → ps' ≡ after f l.restarts (over (points_of c s) l.restarts)
     → decide f (world s v (scratched l)) (world s v (listed c s l)) (Listed (length (graph_arrows s)) (length (points_of c s)))
-    ≡ (world s v (record { column = column_after l.column l.line; line = l.line; arrows = bs'; restarts = ps'; buffer = l.buffer }),
-    told (λ (x : ℕ × ℕ). Listed x.0 x.1) r)
+    ≡ (
+      world s v (record { column = column_after l.column l.line; line = l.line; arrows = bs'; restarts = ps'; buffer = l.buffer }),
+      told (λ (x : ℕ × ℕ). Listed x.0 x.1) r,
+    )
 listing_decides None c s v l a p q = rw (a, p, q) refl
 listing_decides (Some f) c s v l a p q = rw (a, p, q) refl
 
@@ -74,25 +76,31 @@ pub lists_decides : (c : Chart) (s : Sheet) (v : View) (m : Memory) {column colu
     → decide (listing_fault_in c s (length m.column.items) (length m.line.items) (length m.arrows.items) (length m.restarts.items))
     (world s v (scratched (lent_of m))) (world s v (listed c s (lent_of m)))
     (Listed (length (graph_arrows s)) (length (points_of c s)))
-    ≡ (world s v (lent_of (record {
-      column = with_items m.column column';
-      line = with_items m.line line';
-      arrows = with_items m.arrows bs';
-      restarts = with_items m.restarts ps';
-      buffer = m.buffer;
-    })), told (λ (x : ℕ × ℕ). Listed x.0 x.1) r)
+    ≡ (
+      world s v (lent_of (record {
+        column = with_items m.column column';
+        line = with_items m.line line';
+        arrows = with_items m.arrows bs';
+        restarts = with_items m.restarts ps';
+        buffer = m.buffer;
+      })),
+      told (λ (x : ℕ × ℕ). Listed x.0 x.1) r,
+    )
 lists_decides c s v m {column} {column'} {line} line' {bs} {bs'} {ps} {ps'} {r} is long arrows points h left wide same width height =
     let lists : Lists c s (length m.column.items) (length m.line.items) m.arrows.items m.restarts.items r bs' ps' =
     coe 0 1 (i. Lists c s (length (is i)) (length (long i)) (arrows i) (points i) r bs' ps') h in
     let fault = listing_fault_in c s (length m.column.items) (length m.line.items) (length m.arrows.items) (length m.restarts.items) in
     listing_decides fault c s v (lent_of m) lists.answers lists.arrow_table lists.point_table
-    ∙ (λ i. (world s v (record {
-      column = (sym (written m.column column' is wide ∙ left ∙ (λ j. column_after (is j) (length (long j))))) i;
-      line = (sym (ap length (written m.line line' long same) ∙ same ∙ ap length long)) i;
-      arrows = (sym (written m.arrows bs' arrows width)) i;
-      restarts = (sym (written m.restarts ps' points height)) i;
-      buffer = m.buffer.items;
-    }), told (λ (x : ℕ × ℕ). Listed x.0 x.1) r))
+    ∙ (λ i. (
+      world s v (record {
+        column = (sym (written m.column column' is wide ∙ left ∙ (λ j. column_after (is j) (length (long j))))) i;
+        line = (sym (ap length (written m.line line' long same) ∙ same ∙ ap length long)) i;
+        arrows = (sym (written m.arrows bs' arrows width)) i;
+        restarts = (sym (written m.restarts ps' points height)) i;
+        buffer = m.buffer.items;
+      }),
+      told (λ (x : ℕ × ℕ). Listed x.0 x.1) r,
+    ))
 
 -- either way of a reply
 reply_decides : (f : Option Fault) (c : Chart) (s : Sheet) (v : View) (l : Lent) (place : ℕ) {r : Result (Unit {0}) Fault} {buffer' : List ℕ}
@@ -106,20 +114,26 @@ reply_decides (Some f) c s v l place a b = rw (a, b) refl
 pub replies_decides : (c : Chart) (s : Sheet) (v : View) (m : Memory) (place : ℕ) {buffer buffer' : List ℕ} {r : Result (Unit {0}) Fault}
     → buffer ≡ m.buffer.items → Replies c s place buffer r buffer' → length buffer' ≡ length buffer
     → decide (reply_fault place (length m.buffer.items)) (world s v (lent_of m)) (world s v (replied c s place (lent_of m))) Done
-    ≡ (world s v (lent_of (record {
-      column = m.column;
-      line = m.line;
-      arrows = m.arrows;
-      restarts = m.restarts;
-      buffer = with_items m.buffer buffer';
-    })), told (λ _. Done) r)
+    ≡ (
+      world s v (lent_of (record {
+        column = m.column;
+        line = m.line;
+        arrows = m.arrows;
+        restarts = m.restarts;
+        buffer = with_items m.buffer buffer';
+      })),
+      told (λ _. Done) r,
+    )
 replies_decides c s v m place {buffer} {buffer'} {r} is h size =
     let replies : Replies c s place m.buffer.items r buffer' = coe 0 1 (i. Replies c s place (is i) r buffer') h in
     reply_decides (reply_fault place (length m.buffer.items)) c s v (lent_of m) place replies.answers replies.bytes
-    ∙ (λ i. (world s v (record {
-      column = m.column.items;
-      line = length m.line.items;
-      arrows = m.arrows.items;
-      restarts = m.restarts.items;
-      buffer = (sym (written m.buffer buffer' is size)) i;
-    }), told (λ _. Done) r))
+    ∙ (λ i. (
+      world s v (record {
+        column = m.column.items;
+        line = length m.line.items;
+        arrows = m.arrows.items;
+        restarts = m.restarts.items;
+        buffer = (sym (written m.buffer buffer' is size)) i;
+      }),
+      told (λ _. Done) r,
+    ))

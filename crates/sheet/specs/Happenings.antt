@@ -1,5 +1,5 @@
 -- Events and what they are told, as the model has them. Assumes nothing.
-use Rattle.std.specs.Prelude.{Bool, List, [], ◌∷◌, Ok, Err, Result, vec_items}
+use Rattle.std.specs.Prelude.{◌≡◌, Bool, List, [], ◌∷◌, Some, None, Ok, Err, Option, Result, vec_items}
 use Rattle.values.specs.declared.Answer.{Answer}
 use Rattle.values.specs.declared.Answer.TheVariants.{Declined}
 use Rattle.values.specs.declared.Fault.{Fault}
@@ -34,3 +34,25 @@ abbrev pub history_of : {C : Type 0} → List (Event C) → List Taken → Histo
 history_of es [] = []
 history_of [] (t ∷ ts) = []
 history_of (e ∷ es) (t ∷ ts) = (happening t.shut e, t.answer) ∷ history_of es ts
+
+-- the command of an event, if it is one
+abbrev pub command_of : {C : Type 0} → Event C → Option C
+command_of (event.Start k fs e) = None
+command_of (event.End k) = None
+command_of (event.Abort m) = None
+command_of (event.Undo t k) = None
+command_of (event.Finish t) = None
+command_of (event.Park t) = None
+command_of event.Resume = None
+command_of event.Listing = None
+command_of (event.Reply place) = None
+command_of (event.Lend sizes) = None
+command_of (event.Control c) = Some c
+
+-- what an event leaves of the host's switches: a command what it says, and everything else all of them
+abbrev pub Steered : {X C : Type 0} → (X → List Bool) → (X → C → X → Type 0) → Option C → X → X → Type 0
+Steered switches leaves None before then = switches then ≡ switches before
+Steered switches leaves (Some c) before then = leaves before c then
+
+abbrev pub Steers : {X C : Type 0} → (X → List Bool) → (X → C → X → Type 0) → Event C → X → X → Type 0
+Steers switches leaves e before then = Steered switches leaves (command_of e) before then

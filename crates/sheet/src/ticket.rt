@@ -19,7 +19,7 @@ impl Ticket {
     }
 
     /// The numbers that the ticket shows.
-    pub(crate) fn number(&self) -> TicketNumber
+    pub fn number(&self) -> TicketNumber
         ensures { result ≡ self.now.number }
     {
         self.number

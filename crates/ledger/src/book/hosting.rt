@@ -59,6 +59,8 @@ impl Ledger {
 impl Host for Ledger {
     ghost view = { ledger_view };
 
+    ghost switches = { λ _. [] };
+
     ghost sound = { Prim.search rules };
 
     fn begin(&mut self, row: RowKey, entry: Entry) -> Result<(), Fault>

@@ -49,6 +49,8 @@ impl ScoreBook {
 impl Host for ScoreBook {
     ghost view = { book_view };
 
+    ghost switches = { λ _. [] };
+
     ghost sound = { λ b. booked_sound _ _ b.sound };
 
     fn begin(&mut self, row: RowKey, entry: Entry) -> Result<(), Fault>

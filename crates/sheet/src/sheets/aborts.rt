@@ -60,7 +60,8 @@ impl Sheet {
     // Drops all running rows at the host. The number is the row's name there, so the loop is over numbers.
     fn drop_running<X: Host>(&self, host: &mut X)
         requires { Droppable (sheet_of self.now).rows (X.Host.view host.old) }
-        ensures { X.Host.view host.new ≡ all_dropped (sheet_of self.now).rows (X.Host.view host.old) }
+        ensures drops { X.Host.view host.new ≡ all_dropped (sheet_of self.now).rows (X.Host.view host.old) }
+        ensures switches { X.Host.switches host.new ≡ X.Host.switches host.old }
     {
         for row in 1..=self.table.len() {
             if self.table.is_in(RowState::Running, row) {
@@ -99,6 +100,7 @@ impl Sheet {
         requires room { enough (length (held scratch.old.marks.now)) (length scratch.old.line.now) ≡ true }
         ensures sheet { sheet_of self.new ≡ aborted (chart_of self.old) (sheet_of self.old) mode }
         ensures host { X.Host.view host.new ≡ all_dropped (sheet_of self.old).rows (X.Host.view host.old) }
+        ensures switches { X.Host.switches host.new ≡ X.Host.switches host.old }
         ensures process { self.new.process ≡ self.old.process }
         ensures loans { SameLoans scratch.old scratch.new }
     {
@@ -116,7 +118,7 @@ impl Sheet {
 
     /// Rolls back, all of it or what a failing row calls for: running rows are dropped, on the sheet and at the host, and
     /// struck rows are due or passed over. Gives the ticket of the rollback.
-    pub(crate) fn abort<X: Host>(
+    pub fn abort<X: Host>(
         &mut self,
         host: &mut X,
         mode: Mode,
@@ -125,6 +127,7 @@ impl Sheet {
     ) -> Result<Ticket, Fault>
         ensures comes { Aborts (chart_of self.old) (sheet_of self.old) (X.Host.view host.old) mode
             (length column.old) (length line.old) result (sheet_of self.new) (X.Host.view host.new) }
+        ensures switches { X.Host.switches host.new ≡ X.Host.switches host.old }
         ensures process { self.new.process ≡ self.old.process }
         ensures column { column.new ≡ column_after column.old (length line.old) }
         ensures line { enough (length column.old) (length line.old) ≡ false → line.new ≡ line.old }

@@ -28,9 +28,10 @@ impl Sheet {
     }
 
     /// Commits a running row at the host, and marks it.
-    pub(crate) fn end<X: Host>(&mut self, host: &mut X, row: u16) -> Result<(), Fault>
+    pub fn end<X: Host>(&mut self, host: &mut X, row: u16) -> Result<(), Fault>
         ensures comes { Ends (sheet_of self.old) (X.Host.view host.old) row result
             (sheet_of self.new) (X.Host.view host.new) }
+        ensures switches { X.Host.switches host.new ≡ X.Host.switches host.old }
         ensures process { self.new.process ≡ self.old.process }
     {
         self.may_end(row)?;

@@ -52,7 +52,7 @@ impl Sheet {
     }
 
     /// Ends the rollback, where no row is due any more. A declined call hands the ticket back.
-    pub(crate) fn finish(&mut self, ticket: Ticket) -> Result<(), (Ticket, Fault)>
+    pub fn finish(&mut self, ticket: Ticket) -> Result<(), (Ticket, Fault)>
         ensures comes { Leaves (finish_fault (sheet_of self.old) ticket.number) ticket (sheet_of self.old)
             (with_phase (sheet_of self.old) Forward) result (sheet_of self.new) }
         ensures process { self.new.process ≡ self.old.process }
@@ -66,7 +66,7 @@ impl Sheet {
     }
 
     /// Parks the rollback. A declined call hands the ticket back.
-    pub(crate) fn park(&mut self, ticket: Ticket) -> Result<(), (Ticket, Fault)>
+    pub fn park(&mut self, ticket: Ticket) -> Result<(), (Ticket, Fault)>
         ensures comes { Leaves (park_fault (sheet_of self.old) ticket.number) ticket (sheet_of self.old)
             (with_phase (sheet_of self.old) Parked) result (sheet_of self.new) }
         ensures process { self.new.process ≡ self.old.process }
@@ -80,7 +80,7 @@ impl Sheet {
     }
 
     /// Takes a parked rollback up again, and gives its ticket.
-    pub(crate) fn resume(&mut self) -> Result<Ticket, Fault>
+    pub fn resume(&mut self) -> Result<Ticket, Fault>
         ensures comes { Resumes (sheet_of self.old) result (sheet_of self.new) }
         ensures process { self.new.process ≡ self.old.process }
     {

@@ -11,7 +11,7 @@ use values::{Mode, Phase};
 
 impl Sheet {
     /// A blank sheet of a process. It takes the memory for all its rows now.
-    pub(crate) fn new(heap: Global, process: Process, serial: u16) -> Result<Sheet, AllocError>
+    pub fn new(heap: Global, process: Process, serial: u16) -> Result<Sheet, AllocError>
         ensures sheet { IfOk result (λ s. sheet_of s ≡ blank serial) }
         ensures process { IfOk result (λ s. s.process ≡ process) }
     {

@@ -154,7 +154,7 @@ impl Sheet {
     }
 
     /// Starts a row of a step after some rows: begins it at the host, and answers its number.
-    pub(crate) fn start<X: Host>(
+    pub fn start<X: Host>(
         &mut self,
         host: &mut X,
         step: u16,
@@ -163,6 +163,7 @@ impl Sheet {
     ) -> Result<u16, Fault>
         ensures comes { Starts (chart_of self.old) (sheet_of self.old) (X.Host.view host.old)
             step predecessors.now entry result (sheet_of self.new) (X.Host.view host.new) }
+        ensures switches { X.Host.switches host.new ≡ X.Host.switches host.old }
         ensures process { self.new.process ≡ self.old.process }
     {
         let candidate = Candidate {

@@ -32,7 +32,7 @@ impl Sheet {
     }
 
     /// Undoes a due row, also at the host, where no row after it is due.
-    pub(crate) fn undo<X: Host>(
+    pub fn undo<X: Host>(
         &mut self,
         host: &mut X,
         ticket: &Ticket,
@@ -42,6 +42,7 @@ impl Sheet {
     ) -> Result<(), Fault>
         ensures comes { Undoes (sheet_of self.old) (X.Host.view host.old) ticket.now.number row
             (length column.old) (length line.old) result (sheet_of self.new) (X.Host.view host.new) }
+        ensures switches { X.Host.switches host.new ≡ X.Host.switches host.old }
         ensures process { self.new.process ≡ self.old.process }
         ensures column { column.new ≡ column_after column.old (length line.old) }
         ensures line { enough (length column.old) (length line.old) ≡ false → line.new ≡ line.old }

@@ -1,4 +1,5 @@
--- The host has come here by the calls so far.
+-- The host has come here by the calls so far, and no switch was turned.
+use Rattle.std.proofs.Common.{◌≡◌}
 use Rattle.host.proofs.Along.{Come}
 use Rattle.host.proofs.calls.make_all.Given as goal
 
@@ -6,3 +7,4 @@ abbrev pub invariant-loop-call : goal.invariant-loop-call
 invariant-loop-call g l =
     let view = g.X.Host.view in
     Come (view l.initial.host) l.calls l.call-index (view l.host) l.count
+    × (g.X.Host.switches l.host ≡ g.X.Host.switches l.initial.host)

@@ -11,11 +11,12 @@ pub loop-event-preserved : goal.loop-event-preserved
 loop-event-preserved g c =
     let view = g.X.Host.view in
     let x = c.args.self.now in
-    let (t, more, one) = c.in_default.ensures.goes in
-    (gone_more (process_of x) (world_of view x) c.args.events.now c.loop-event.event-index c.loop-event.taken.items (world_of view c.loop-event.self)
-    c.event-item.result c.take_into.new.taken.items t (world_of view c.take_into.new.self)
-    c.loop-event-test.true c.event-item.is c.loop-event.invariant.0 more c.loop-event.invariant.1 one,
-    c.in_default.ensures.process ∙ c.loop-event.invariant.1)
+    let (t, more, one) = c.in_default.ensures.goes in (
+      gone_more (process_of x) (world_of view x) c.args.events.now c.loop-event.event-index c.loop-event.taken.items (world_of view c.loop-event.self)
+          c.event-item.result c.take_into.new.taken.items t (world_of view c.take_into.new.self)
+          c.loop-event-test.true c.event-item.is c.loop-event.invariant.0 more c.loop-event.invariant.1 one,
+      c.in_default.ensures.process ∙ c.loop-event.invariant.1,
+    )
 
 pub returns-in-Err-clause-goes : goal.returns-in-Err-clause-goes
 returns-in-Err-clause-goes g c =

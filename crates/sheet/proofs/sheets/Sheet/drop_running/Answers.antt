@@ -15,7 +15,7 @@ pub unwrap-requires : goal.unwrap-requires
 unwrap-requires g c =
     let runs : ℕ → Bool = in_state (sheet_of c.args.self.now).rows Running in
     let n = c.loop-row.row in
-    let drops = simp c.row_key.ensures at c.drop_row.ensures.answers in
+    let drops = simp c.row_key.ensures at c.drop_row.ensures.does.answers in
     let none = ap (λ (x : View). first_fault (move_checks Open x (key_of n))) c.loop-row.invariant.dropped
     ∙ still_droppable runs n (g.X.Host.view c.args.host.now) (c.requires n (sym c.if-is_in.ensures)) in
     search rules
@@ -30,14 +30,18 @@ loop-row-preserved g c =
         | then-is_in w ↦
             ap g.X.Host.view w.host-is
             ∙ dropped_one runs n v _ _ (c.requires n (sym w.if-is_in.ensures)) w.if-is_in.ensures c.loop-row.invariant.dropped
-            (simp w.row_key.ensures at w.drop_row.ensures.shows)
+            (simp w.row_key.ensures at w.drop_row.ensures.does.shows)
         | else-is_in w ↦ ap g.X.Host.view w.host-is ∙ dropped_none runs n v _ w.if-is_in.ensures c.loop-row.invariant.dropped
+      ];
+      switches = elim c.if-is_in.branch [
+        | then-is_in w ↦ ap g.X.Host.switches w.host-is ∙ w.drop_row.ensures.switches ∙ c.loop-row.invariant.switches
+        | else-is_in w ↦ ap g.X.Host.switches w.host-is ∙ c.loop-row.invariant.switches
       ];
       near = omega arith;
     }
 
-pub returns-after-is_in : goal.returns-after-is_in
-returns-after-is_in g c =
+pub returns-after-is_in-clause-drops : goal.returns-after-is_in-clause-drops
+returns-after-is_in-clause-drops g c =
     let runs : ℕ → Bool = in_state (sheet_of c.args.self.now).rows Running in
     let n = c.loop-row.row in
     let v = g.X.Host.view c.args.host.now in
@@ -46,7 +50,14 @@ returns-after-is_in g c =
       | then-is_in w ↦
           ap g.X.Host.view w.host-is
           ∙ dropped_one runs n v _ _ (c.requires n (sym w.if-is_in.ensures)) w.if-is_in.ensures c.loop-row.invariant.dropped
-          (simp w.row_key.ensures at w.drop_row.ensures.shows)
+          (simp w.row_key.ensures at w.drop_row.ensures.does.shows)
       | else-is_in w ↦ ap g.X.Host.view w.host-is ∙ dropped_none runs n v _ w.if-is_in.ensures c.loop-row.invariant.dropped
     ]
     ∙ ap (λ n. dropped_below runs (n + 1) v) last
+
+pub returns-after-is_in-clause-switches : goal.returns-after-is_in-clause-switches
+returns-after-is_in-clause-switches g c =
+    elim c.if-is_in.branch [
+      | then-is_in w ↦ ap g.X.Host.switches w.host-is ∙ w.drop_row.ensures.switches ∙ c.loop-row.invariant.switches
+      | else-is_in w ↦ ap g.X.Host.switches w.host-is ∙ c.loop-row.invariant.switches
+    ]

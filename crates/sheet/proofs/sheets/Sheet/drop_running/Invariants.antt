@@ -9,5 +9,6 @@ abbrev pub invariant-loop-row : goal.invariant-loop-row
 invariant-loop-row g l =
     record {
       dropped : g.X.Host.view l.host ≡ dropped_below (in_state (sheet_of l.self).rows Running) l.row (g.X.Host.view l.initial.host);
+      switches : g.X.Host.switches l.host ≡ g.X.Host.switches l.initial.host;
       near : l.row ≤ l.row-end + 1;
     }

@@ -15,7 +15,7 @@ use Rattle.sheet.proofs.sheets.Sheet.end.Goals as goal
 
 pub returns-in_err-commit-clause-comes : goal.returns-in_err-commit-clause-comes
 returns-in_err-commit-clause-comes g c =
-    let b = simp c.row_key.ensures at c.in_err-commit.ensures in
+    let b = simp c.row_key.ensures at c.in_err-commit.ensures.does in
     host_declines (end_checks (sheet_of c.args.self.now) c.args.row) (move_checks Open (g.X.Host.view c.args.host.now) (key_of c.args.row))
     c.in_ok-may_end.ensures b.answers (search rules) refl b.shows
 
@@ -24,7 +24,7 @@ invariant_of-self g c =
     let s = sheet_of c.args.self.now in
     let v = g.X.Host.view c.args.host.now in
     let k = c.args.row in
-    let b = simp c.row_key.ensures at c.in_ok-commit.ensures in
+    let b = simp c.row_key.ensures at c.in_ok-commit.ensures.does in
     let none = none_declines (end_checks s k) (move_checks Open v (key_of k)) c.in_ok-may_end.ensures b.answers in
     let is = other_rows c.args.self.now c.set_state.new.self _
     (c.set_state.ensures.rows ∙ put_into s.rows k Running Committed (end_running s v k none) refl)

@@ -13,13 +13,13 @@ returns-in_err-may_start-clause-comes g c =
 pub returns-in_err-begin-clause-comes : goal.returns-in_err-begin-clause-comes
 returns-in_err-begin-clause-comes g c =
     let x = c.args.self.now in
-    let b = simp (c.row_key.ensures, c.len-row.ensures) at c.in_err-begin.ensures in
+    let b = simp (c.row_key.ensures, c.len-row.ensures) at c.in_err-begin.ensures.does in
     host_declines (start_own x c.args.step c.args.predecessors.now c.args.entry) (start_asked x (g.X.Host.view c.args.host.now) c.args.entry)
     c.in_ok-may_start.ensures b.answers (search rules) refl b.shows
 
 pub invariant_of-self : goal.invariant_of-self
 invariant_of-self g c =
-    let b = simp (c.row_key.ensures, c.len-row.ensures) at c.in_ok-begin.ensures in
+    let b = simp (c.row_key.ensures, c.len-row.ensures) at c.in_ok-begin.ensures.does in
     record {
       kept = start_kept c.args.self.now (g.X.Host.view c.args.host.now) c.args.step c.args.predecessors.now c.args.entry
           c.in_ok-may_start.ensures b.answers c.push.new.self c.push.ensures.fits c.push.ensures.rows c.push.ensures.rolled;
@@ -27,7 +27,7 @@ invariant_of-self g c =
 
 pub unwrap-requires : goal.unwrap-requires
 unwrap-requires g c =
-    let b = simp (c.row_key.ensures, c.len-row.ensures) at c.in_ok-begin.ensures in
+    let b = simp (c.row_key.ensures, c.len-row.ensures) at c.in_ok-begin.ensures.does in
     let fits = c.push.ensures.fits
     ∙ room c.args.self.now (g.X.Host.view c.args.host.now) c.args.step c.args.predecessors.now c.args.entry c.in_ok-may_start.ensures b.answers in
     search rules
@@ -39,7 +39,7 @@ returns-clause-comes g c =
     let k = c.args.step in
     let fs = c.args.predecessors.now in
     let e = c.args.entry in
-    let b = simp (c.row_key.ensures, c.len-row.ensures) at c.in_ok-begin.ensures in
+    let b = simp (c.row_key.ensures, c.len-row.ensures) at c.in_ok-begin.ensures.does in
     let is = pushed x v k fs e c.in_ok-may_start.ensures b.answers c.push.new.self c.push.ensures.fits c.push.ensures.rows c.push.ensures.rolled in
     both_accept (start_own x k fs e) (start_asked x v e)
     c.in_ok-may_start.ensures b.answers (ap (λ n. Ok (n + 1)) c.len-row.ensures) is b.shows

@@ -30,7 +30,7 @@ returns-in_err-undo-clause-comes g c =
     let own = undo_own_checks s c.args.ticket.now.number c.args.row in
     let asked = move_checks Standing (g.X.Host.view c.args.host.now) (key_of c.args.row) in
     let passes = simp c.number.ensures at c.in_ok-may_undo.ensures in
-    let b = simp c.row_key.ensures at c.in_err-undo.ensures in
+    let b = simp c.row_key.ensures at c.in_err-undo.ensures.does in
     passed_first (memory_check (length c.args.column.now) (length c.args.line.now)) _ c.in_ok-wants_memory.ensures
     (host_declines own asked passes.checks b.answers (search rules) refl b.shows)
 
@@ -41,7 +41,7 @@ invariant_of-self g c =
     let t = c.args.ticket.now.number in
     let k = c.args.row in
     let passes = simp c.number.ensures at c.in_ok-may_undo.ensures in
-    let b = simp c.row_key.ensures at c.in_ok-undo.ensures in
+    let b = simp c.row_key.ensures at c.in_ok-undo.ensures.does in
     let none = none_declines (undo_own_checks s t k) (move_checks Standing v (key_of k)) passes.checks b.answers in
     let is = other_rows c.args.self.now c.set_state.new.self _
     (c.set_state.ensures.rows ∙ put_into s.rows k Due Undone (undo_due s v t k 257 256 none) refl)
@@ -60,7 +60,7 @@ returns-clause-comes g c =
     let own = undo_own_checks s t k in
     let asked = move_checks Standing v (key_of k) in
     let passes = simp c.number.ensures at c.in_ok-may_undo.ensures in
-    let b = simp c.row_key.ensures at c.in_ok-undo.ensures in
+    let b = simp c.row_key.ensures at c.in_ok-undo.ensures.does in
     let none = none_declines own asked passes.checks b.answers in
     let is = other_rows c.args.self.now c.set_state.new.self _
     (c.set_state.ensures.rows ∙ put_into s.rows k Due Undone (undo_due s v t k 257 256 none) refl)
