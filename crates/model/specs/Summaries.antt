@@ -1,9 +1,9 @@
 -- The summary of a sheet, and that it depends on no private entry. Assumes nothing.
-use Rattle.std.specs.Prelude.{◌≡◌, ℕ, zero, suc, ◌+◌, Bool, cond, List, [], ◌∷◌, length, Some, None, Option, ◌==◌}
+use Rattle.std.specs.Prelude.{◌≡◌, ℕ, zero, suc, ◌+◌, cond, List, length, Some, None, Option, ◌==◌, map, count_by}
+use Rattle.std.specs.List.{range_with_len}
 use Rattle.values.specs.declared.Phase.{Phase}
 use Rattle.values.specs.declared.RowState.{RowState}
 use Rattle.values.specs.declared.RowState.TheVariants.{Absent, Running, Committed, Dropped, Due, Undone, PassedOver}
-use Rattle.model.specs.Search.{each_below}
 use Rattle.model.specs.Chart.{Chart, step_at}
 use Rattle.model.specs.Rows.{Rows, in_state}
 use Rattle.model.specs.Sheet.{Sheet}
@@ -27,13 +27,12 @@ pub record Summary : Type 0 where
   pub rows : Counts
   pub standings : List (Option RowState)
 
--- how many numbers below n pass the test
-abbrev pub count_below : ℕ → (ℕ → Bool) → ℕ
-count_below zero p = 0
-count_below (suc n) p = count_below n p + cond (p n) 1 0
+-- the numbers 1 to n
+abbrev pub one_to : ℕ → List ℕ
+one_to n = range_with_len 1 n
 
 abbrev pub count_in : Rows → RowState → ℕ
-count_in r st = count_below (r.count + 1) (in_state r st)
+count_in r st = count_by (in_state r st) (one_to r.count)
 
 abbrev pub counts_of : Rows → Counts
 counts_of r = record {
@@ -56,7 +55,7 @@ abbrev pub standing : Chart → Rows → ℕ → Option RowState
 standing c r k = cond (step_at c k).private None (Some (highest_state r k (r.count + 1)))
 
 abbrev pub standings : Chart → Rows → List (Option RowState)
-standings c r = each_below (length c.0) (λ i. standing c r (i + 1) ∷ [])
+standings c r = map (standing c r) (one_to (length c.0))
 
 abbrev pub summary_of : Chart → Sheet → Summary
 summary_of c s = record {

@@ -8,5 +8,5 @@ mod sheets;
 mod ticket;
 
 pub use events::{Event, Sizes};
-pub use sheets::Sheet;
+pub use sheets::{RowCounts, Sheet, Summary};
 pub use ticket::Ticket;
