@@ -1,7 +1,9 @@
 -- What is printed: a line's fault in words, and the summary. Assumes nothing.
-use Rattle.std.specs.Prelude.{ℕ, ◌+◌, cond, List, [], ◌∷◌, ◌++◌, map, Some, None, Option, vec_items, string_bytes, codes, decimal}
+use Rattle.std.specs.Prelude.{ℕ, ◌+◌, ◌/◌, ◌%◌, cond, nat_lt, List, [], ◌∷◌, ◌++◌, map, Some, None, Option, vec_items, string_bytes, codes, decimal}
+use Rattle.std.specs.List.{flat_map}
 use Rattle.values.specs.declared.Phase.{Phase}
 use Rattle.values.specs.declared.Phase.TheVariants.{Forward, Undoing, Parked}
+use Rattle.values.specs.declared.RowArrow.{RowArrow}
 use Rattle.values.specs.declared.RowState.{RowState}
 use Rattle.values.specs.declared.RowState.TheVariants.{Absent, Running, Committed, Dropped, Due, Undone, PassedOver}
 use Rattle.values.specs.Texts.{spelled}
@@ -12,7 +14,7 @@ use Rattle.journal.specs.declared.ParseError.{ParseError}
 use Rattle.journal.specs.declared.ParseError.TheVariants as parse_error
 use Rattle.journal.specs.declared.Unreadable.{Unreadable}
 use Rattle.journal.specs.declared.answers.Answer.{Answer}
-use Rattle.journal.specs.declared.answers.Answer.TheVariants.{Process, Declined}
+use Rattle.journal.specs.declared.answers.Answer.TheVariants.{Process, Row, Done, Ticket, Listed, Reply, Declined}
 use Rattle.journal.specs.declared.summary.RowCounts.{RowCounts}
 use Rattle.journal.specs.declared.summary.StepLine.{StepLine}
 use Rattle.journal.specs.declared.summary.Summary.{Summary}
@@ -47,9 +49,31 @@ shown_byte b = cond (printable b) b 63
 abbrev pub shown_name : List ℕ → List ℕ
 shown_name name = map shown_byte name
 
+-- items with commas between; a dash where there are none
+abbrev pub parted : {X : Type 0} → (X → List ℕ) → List X → List ℕ
+parted text [] = codes "-"
+parted text (x ∷ xs) = text x ++ flat_map (λ y. codes "," ++ text y) xs
+
+abbrev pub arrow_text : RowArrow → List ℕ
+arrow_text a = decimal a.from ++ (codes ">" ++ decimal a.to)
+
+-- a digit 0 to 9 or a to f
+abbrev pub hex_digit : ℕ → ℕ
+hex_digit n = cond (nat_lt n 10) (48 + n) (87 + n)
+
+-- two hex digits for each byte
+abbrev pub hex_text : List ℕ → List ℕ
+hex_text bytes = flat_map (λ b. hex_digit (b / 16) ∷ hex_digit (b % 16) ∷ []) bytes
+
 -- the answer to a line: NUMBER WORD: ANSWER
 abbrev pub answer_text : Answer → List ℕ
 answer_text (Process steps arrows) = codes "steps " ++ (decimal steps ++ (codes " arrows " ++ decimal arrows))
+answer_text (Row row) = codes "row " ++ decimal row
+answer_text Done = codes "done"
+answer_text (Ticket t) = codes "ticket " ++ (decimal t.serial ++ (codes "/" ++ decimal t.rollback))
+answer_text (Listed arrows restarts) =
+    codes "arrows " ++ (parted arrow_text arrows.now ++ (codes " restart " ++ parted decimal restarts.now))
+answer_text (Reply bytes) = hex_text bytes.now
 answer_text (Declined fault) = codes "declined " ++ spelled fault
 
 abbrev pub answer_line : ℕ → List ℕ → Answer → List ℕ

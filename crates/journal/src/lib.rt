@@ -5,6 +5,7 @@ ghost use Rattle.std.specs.Prelude.{◌≡◌};
 ghost use Rattle.journal.specs.declared.ParseError.TheVariants.{Unreadable as UnreadableLine, Memory};
 
 mod answers;
+mod lists;
 mod names;
 mod outcomes;
 mod replay;
