@@ -1,6 +1,7 @@
 pub mod Text
 pub mod Settings
+pub mod Summaries
 pub mod Spelled
-pub mod Outcomes
 pub mod Names
+pub mod Outcomes
 pub mod Run

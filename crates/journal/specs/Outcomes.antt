@@ -1,13 +1,17 @@
 -- What becomes of a journal. Assumes nothing.
-use Rattle.std.specs.Prelude.{ℕ, Bool, true, false, List, [], ◌++◌, vec_len, string_bytes, codes, Vec}
-use Rattle.std.specs.declared.alloc.Global.{Global}
+use Rattle.std.specs.Prelude.{ℕ, Bool, true, false, List, [], ◌++◌, length, string_bytes, codes, cond, Some, None, Option}
 use Rattle.values.specs.declared.Fault.{Fault}
-use Rattle.values.specs.declared.Phase.TheVariants.{Forward}
+use Rattle.values.specs.declared.RowState.{RowState}
+use Rattle.values.specs.declared.RowState.TheVariants.{Absent}
+use Rattle.process.specs.declared.parts.Step.{Step}
+use Rattle.model.specs.Chart.{Chart}
+use Rattle.model.specs.Sheet.{blank}
+use Rattle.model.specs.Summaries.{summary_of}
 use Rattle.journal.specs.declared.Unreadable.{Unreadable}
 use Rattle.journal.specs.declared.answers.Answer.TheVariants.{Process, Declined}
 use Rattle.journal.specs.declared.outcomes.Outcome.{Outcome}
-use Rattle.journal.specs.declared.summary.StepLine.{StepLine}
-use Rattle.journal.specs.declared.summary.Summary.{Summary}
+use Rattle.journal.specs.declared.summary.CallCounts.{CallCounts}
+use Rattle.journal.specs.Summaries.{SummaryShown, joined}
 use Rattle.journal.specs.Spelled.{report, answer_line, summary_text}
 
 -- the bytes on standard output and standard error, and whether the status is 0
@@ -27,18 +31,21 @@ unread u = record { printed = []; reported = report u ++ codes "\n"; accepted = 
 abbrev pub declined : ℕ → Fault → Shown
 declined line fault = record { printed = answer_line line (codes "process") (Declined fault); reported = []; accepted = false }
 
-abbrev pub replayed : ℕ → ℕ → Summary → Shown
-replayed line arrows s =
-    record { printed = answer_line line (codes "process") (Process (vec_len s.steps) arrows) ++ summary_text s; reported = []; accepted = true }
-
--- the summary of a blank sheet
-abbrev pub blank : Vec StepLine Global → Summary
-blank steps = record {
-  calls = 0;
-  accepted = 0;
-  declined = 0;
-  phase = Forward;
-  rollbacks = 0;
-  rows = record { all = 0; running = 0; committed = 0; dropped = 0; due = 0; undone = 0; passed_over = 0 };
-  steps = steps;
+-- of a process that was accepted the counts of its steps and arrows are told, and then the summary
+abbrev pub replayed : ℕ → Chart → SummaryShown → Shown
+replayed line c s = record {
+  printed = answer_line line (codes "process") (Process (length c.0) (length c.1)) ++ summary_text s;
+  reported = [];
+  accepted = true;
 }
+
+-- how a step stands that has no row
+abbrev pub unstarted : Step → Option RowState
+unstarted s = cond s.private None (Some Absent)
+
+abbrev pub no_calls : CallCounts
+no_calls = record { all = 0; accepted = 0; declined = 0 }
+
+-- the summary of a run without calls, by the names of the steps; the sheet's serial is not told
+abbrev pub blank_run : Chart → List (List ℕ) → SummaryShown
+blank_run c names = joined no_calls (summary_of c (blank 0)) names None

@@ -1,22 +1,20 @@
 -- What becomes of the text of a journal. Assumes nothing.
-use Rattle.std.specs.Prelude.{◌≡◌, ℕ, ◌+◌, List, map, length, Ok, Err, vec_items, Result, Vec, MatchResult}
-use Rattle.std.specs.declared.alloc.Global.{Global}
+use Rattle.std.specs.Prelude.{◌≡◌, ℕ, ◌+◌, List, length, Ok, Err, Result, MatchResult}
 use Rattle.values.specs.declared.Fault.{Fault}
 use Rattle.process.specs.declared.accepted.Process.{Process}
 use Rattle.process.specs.Accepted.{Reading, tables_of}
 use Rattle.process.specs.Reading.{start}
 use Rattle.journal.specs.declared.Unreadable.{Unreadable}
 use Rattle.journal.specs.declared.outcomes.Outcome.{Outcome}
-use Rattle.journal.specs.declared.summary.StepLine.{StepLine}
-use Rattle.journal.specs.Names.{line_shown, handed}
-use Rattle.journal.specs.Outcomes.{shown, unread, declined, replayed, blank}
+use Rattle.journal.specs.Names.{names_handed}
+use Rattle.journal.specs.Outcomes.{shown, unread, declined, replayed, blank_run}
 use Rattle.journal.specs.Settings.{Contents}
 
 -- of an accepted process the counts of its steps and arrows are told, and its blank sheet, step by step
-pub record AcceptedTold (xs : List ℕ) (line : ℕ) (x : Outcome) (q : Process) : Type 0 where
-  pub lines : Vec StepLine Global
-  pub steps : map line_shown (vec_items lines) ≡ handed (length (tables_of q).0 + 1) xs start
-  pub tells : shown x ≡ replayed line (length (tables_of q).1) (blank lines)
+abbrev pub AcceptedTold : List ℕ → ℕ → Outcome → Process → Type 0
+AcceptedTold xs line x q =
+    let names = names_handed (length (tables_of q).0 + 1) xs start in
+    shown x ≡ replayed line (tables_of q) (blank_run (tables_of q) names)
 
 -- the process that the journal stores on a line gets the one answer for its bytes, and that is told
 pub record ProcessTold (xs : List ℕ) (line : ℕ) (x : Outcome) : Type 0 where

@@ -1,10 +1,14 @@
 -- What is printed: a line's fault in words, and the summary. Assumes nothing.
-use Rattle.std.specs.Prelude.{ℕ, ◌+◌, cond, List, [], ◌∷◌, ◌++◌, map, Some, None, Option, vec_items, string_bytes, codes, decimal}
+use Rattle.std.specs.Prelude.{ℕ, ℤ, ◌+◌, ◌/◌, ◌%◌, cond, nat_lt, List, [], ◌∷◌, ◌++◌, map, Some, None, Option, codes, decimal}
+use Rattle.std.specs.Fmt.{signed_decimal}
+use Rattle.std.specs.List.{flat_map}
 use Rattle.values.specs.declared.Phase.{Phase}
 use Rattle.values.specs.declared.Phase.TheVariants.{Forward, Undoing, Parked}
+use Rattle.values.specs.declared.RowArrow.{RowArrow}
 use Rattle.values.specs.declared.RowState.{RowState}
 use Rattle.values.specs.declared.RowState.TheVariants.{Absent, Running, Committed, Dropped, Due, Undone, PassedOver}
 use Rattle.values.specs.Texts.{spelled}
+use Rattle.model.specs.Summaries.{Counts}
 use Rattle.journal.specs.declared.Wrong.{Wrong}
 use Rattle.journal.specs.declared.Wrong.TheVariants.{StrayByte, UnknownWord, TooFewWords, TooManyWords, NotANumber, NumberTooLarge}
 use Rattle.journal.specs.declared.Wrong.TheVariants.{NotHex, OddHex, MissingProcess, MissingSerial, Repeated}
@@ -12,10 +16,9 @@ use Rattle.journal.specs.declared.ParseError.{ParseError}
 use Rattle.journal.specs.declared.ParseError.TheVariants as parse_error
 use Rattle.journal.specs.declared.Unreadable.{Unreadable}
 use Rattle.journal.specs.declared.answers.Answer.{Answer}
-use Rattle.journal.specs.declared.answers.Answer.TheVariants.{Process, Declined}
-use Rattle.journal.specs.declared.summary.RowCounts.{RowCounts}
-use Rattle.journal.specs.declared.summary.StepLine.{StepLine}
-use Rattle.journal.specs.declared.summary.Summary.{Summary}
+use Rattle.journal.specs.declared.answers.Answer.TheVariants.{Process, Row, Done, Ticket, Listed, Reply, Declined}
+use Rattle.journal.specs.declared.summary.CallCounts.{CallCounts}
+use Rattle.journal.specs.Summaries.{SummaryShown}
 use Rattle.journal.specs.Text.{printable}
 
 -- what is wrong with a line, in words
@@ -47,9 +50,31 @@ shown_byte b = cond (printable b) b 63
 abbrev pub shown_name : List ℕ → List ℕ
 shown_name name = map shown_byte name
 
+-- items with commas between; a dash where there are none
+abbrev pub parted : {X : Type 0} → (X → List ℕ) → List X → List ℕ
+parted text [] = codes "-"
+parted text (x ∷ xs) = text x ++ flat_map (λ y. codes "," ++ text y) xs
+
+abbrev pub arrow_text : RowArrow → List ℕ
+arrow_text a = decimal a.from ++ (codes ">" ++ decimal a.to)
+
+-- a digit 0 to 9 or a to f
+abbrev pub hex_digit : ℕ → ℕ
+hex_digit n = cond (nat_lt n 10) (48 + n) (87 + n)
+
+-- two hex digits for each byte
+abbrev pub hex_text : List ℕ → List ℕ
+hex_text bytes = flat_map (λ b. hex_digit (b / 16) ∷ hex_digit (b % 16) ∷ []) bytes
+
 -- the answer to a line: NUMBER WORD: ANSWER
 abbrev pub answer_text : Answer → List ℕ
 answer_text (Process steps arrows) = codes "steps " ++ (decimal steps ++ (codes " arrows " ++ decimal arrows))
+answer_text (Row row) = codes "row " ++ decimal row
+answer_text Done = codes "done"
+answer_text (Ticket t) = codes "ticket " ++ (decimal t.serial ++ (codes "/" ++ decimal t.rollback))
+answer_text (Listed arrows restarts) =
+    codes "arrows " ++ (parted arrow_text arrows.now ++ (codes " restart " ++ parted decimal restarts.now))
+answer_text (Reply bytes) = hex_text bytes.now
 answer_text (Declined fault) = codes "declined " ++ spelled fault
 
 abbrev pub answer_line : ℕ → List ℕ → Answer → List ℕ
@@ -71,31 +96,38 @@ standing_text (Some Due) = codes "due"
 standing_text (Some Undone) = codes "undone"
 standing_text (Some PassedOver) = codes "passed over"
 
-abbrev pub calls_text : ℕ → ℕ → ℕ → List ℕ
-calls_text calls accepted declined =
-    codes "summary\ncalls " ++ (decimal calls ++ (codes " accepted " ++ (decimal accepted ++ (codes " declined " ++ (decimal declined ++ codes "\n")))))
+abbrev pub calls_text : CallCounts → List ℕ
+calls_text n =
+    codes "summary\ncalls " ++ (decimal n.all ++ (codes " accepted " ++ (decimal n.accepted
+    ++ (codes " declined " ++ (decimal n.declined ++ codes "\n")))))
 
 abbrev pub state_text : Phase → ℕ → List ℕ
 state_text phase rollbacks = codes "phase " ++ (phase_text phase ++ (codes " rollbacks " ++ (decimal rollbacks ++ codes "\n")))
 
-abbrev pub rows_text : RowCounts → List ℕ
+abbrev pub rows_text : Counts → List ℕ
 rows_text r =
     codes "rows " ++ (decimal r.all ++ (codes " running " ++ (decimal r.running ++ (codes " committed " ++ (decimal r.committed
     ++ (codes " dropped " ++ (decimal r.dropped ++ (codes " due " ++ (decimal r.due ++ (codes " undone " ++ (decimal r.undone
     ++ (codes " passed over " ++ decimal r.passed_over))))))))))))
 
-abbrev pub line_text : StepLine → List ℕ
-line_text s = string_bytes s.name ++ (codes " " ++ standing_text s.standing)
+-- a step's line, by its name and how it stands
+abbrev pub line_text : List ℕ × Option RowState → List ℕ
+line_text s = s.0 ++ (codes " " ++ standing_text s.1)
 
-abbrev pub step_text : ℕ → StepLine → List ℕ
+abbrev pub step_text : ℕ → List ℕ × Option RowState → List ℕ
 step_text n s = codes "step " ++ (decimal n ++ (codes " " ++ (line_text s ++ codes "\n")))
 
 -- the step lines, numbered from n on
-abbrev pub steps_text : ℕ → List StepLine → List ℕ
+abbrev pub steps_text : ℕ → List (List ℕ × Option RowState) → List ℕ
 steps_text n [] = []
 steps_text n (s ∷ ss) = step_text n s ++ steps_text (n + 1) ss
 
-abbrev pub summary_text : Summary → List ℕ
+-- a line where the balance is wanted
+abbrev pub balance_text : Option ℤ → List ℕ
+balance_text None = []
+balance_text (Some b) = codes "balance " ++ (signed_decimal b ++ codes "\n")
+
+abbrev pub summary_text : SummaryShown → List ℕ
 summary_text s =
-    calls_text s.calls s.accepted s.declined ++ (state_text s.phase s.rollbacks
-    ++ (rows_text s.rows ++ (codes "\n" ++ steps_text 1 (vec_items s.steps))))
+    calls_text s.calls ++ (state_text s.phase s.rollbacks
+    ++ (rows_text s.rows ++ (codes "\n" ++ (steps_text 1 s.steps ++ balance_text s.balance))))

@@ -2,23 +2,50 @@
 ghost use Rattle.std.specs.Prelude.{Some};
 ghost use Rattle.journal.specs.Spelled.{answer_text, answer_line};
 
+use crate::lists::{Hex, Parted};
 use std::fmt;
-use values::Fault;
+use values::{Fault, RowArrow, TicketNumber};
 
 /// What a line of the journal was answered.
 // No Result: it is printed, by a Display of its own.
 #[derive(Clone, Copy, Drop)]
-pub enum Answer {
-    Process { steps: usize, arrows: usize },
+pub enum Answer<'a> {
+    Process {
+        steps: usize,
+        arrows: usize,
+    },
+    /// A row was started, with this number.
+    Row(u16),
+    Done,
+    Ticket(TicketNumber),
+    Listed {
+        arrows: &'a [RowArrow],
+        restarts: &'a [u16],
+    },
+    Reply(&'a [u8]),
     Declined(Fault),
 }
 
-impl fmt::Display for Answer {
+impl fmt::Display for Answer<'_> {
     ghost output = { λ x. Some (answer_text x) };
 
     fn fmt<W: fmt::Write>(&self, f: &mut fmt::Formatter<W>) -> fmt::Result {
         match *self {
             Answer::Process { steps, arrows } => write!(f, "steps {steps} arrows {arrows}"),
+            Answer::Row(row) => write!(f, "row {row}"),
+            Answer::Done => write!(f, "done"),
+            Answer::Ticket(TicketNumber { serial, rollback }) => {
+                write!(f, "ticket {serial}/{rollback}")
+            }
+            Answer::Listed { arrows, restarts } => {
+                let arrows = Parted(arrows);
+                let restarts = Parted(restarts);
+                write!(f, "arrows {arrows} restart {restarts}")
+            }
+            Answer::Reply(bytes) => {
+                let bytes = Hex(bytes);
+                write!(f, "{bytes}")
+            }
             Answer::Declined(fault) => write!(f, "declined {fault}"),
         }
     }
@@ -29,7 +56,7 @@ impl fmt::Display for Answer {
 pub(crate) struct AnswerLine<'a> {
     pub(crate) line: usize,
     pub(crate) word: &'a str,
-    pub(crate) answer: Answer,
+    pub(crate) answer: Answer<'a>,
 }
 
 impl fmt::Display for AnswerLine<'_> {

@@ -5,6 +5,7 @@ ghost use Rattle.std.specs.Prelude.{◌≡◌};
 ghost use Rattle.journal.specs.declared.ParseError.TheVariants.{Unreadable as UnreadableLine, Memory};
 
 mod answers;
+mod lists;
 mod names;
 mod outcomes;
 mod replay;
@@ -17,8 +18,9 @@ pub use answers::Answer;
 pub use outcomes::Outcome;
 pub use replay::run;
 pub use settings::parse;
+pub use sheet::RowCounts;
 use std::alloc::AllocError;
-pub use summary::{RowCounts, StepLine, Summary, printable_name};
+pub use summary::{CallCounts, StepLine, Summary, printable_name};
 
 /// What makes a line unreadable.
 #[derive(Clone, Copy, PartialEq, Eq, Debug, Drop)]

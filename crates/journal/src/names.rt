@@ -1,50 +1,40 @@
-// The steps of a stored process, as the summary of a blank sheet tells them.
+// The names of the steps of a stored process, as they are printed.
 ghost use Rattle.std.specs.Prelude.{◌≡◌, [], ◌++◌, IfOk, OnOk};
 ghost use Rattle.process.specs.Items.{record_of};
 ghost use Rattle.process.specs.Reading.{start};
-ghost use Rattle.journal.specs.Names.{line_shown, told_lines, blank_line, line_before, handed};
+ghost use Rattle.journal.specs.Names.{texts, name_before, names_handed};
 
-use crate::summary::{StepLine, printable_name};
+use crate::summary::printable_name;
 use process::Reader;
 use process::parts::Item;
 use std::alloc::{AllocError, Global};
-use values::RowState;
 
-// The line of a step that has no row.
-fn blank_line(heap: Global, private: bool, name: &[u8]) -> Result<StepLine, AllocError>
-    ensures { IfOk result (λ x. line_shown x ≡ blank_line private name.now) }
+// Adds the name of a step; other records have none.
+fn add_name(heap: Global, names: &mut Vec<String>, item: Item<'_>) -> Result<(), AllocError>
+    ensures { OnOk result (texts names.new ≡ texts names.old ++ name_before (record_of item.entry) []) }
 {
-    let name = printable_name(heap, name)?;
-    let standing = (!private).then_some(RowState::Absent);
-    Ok(StepLine { name, standing })
-}
-
-// Adds the line of a step; other records have none.
-fn add_line(heap: Global, lines: &mut Vec<StepLine>, item: Item<'_>) -> Result<(), AllocError>
-    ensures { OnOk result (told_lines lines.new ≡ told_lines lines.old ++ line_before (record_of item.entry) []) }
-{
-    if let Item::Step { step, name, .. } = item {
-        lines.push(blank_line(heap, step.private, name)?)?;
+    if let Item::Step { name, .. } = item {
+        names.push(printable_name(heap, name)?)?;
     }
     Ok(())
 }
 
-// The lines of the steps among the first records that the bytes store.
-pub(crate) fn blank_lines(
+// The names of the steps among the first records that the bytes store.
+pub(crate) fn step_names(
     heap: Global,
     stored: &[u8],
     records: usize,
-) -> Result<Vec<StepLine>, AllocError>
-    ensures { IfOk result (λ v. told_lines v ≡ handed records stored.now start) }
+) -> Result<Vec<String>, AllocError>
+    ensures { IfOk result (λ v. texts v ≡ names_handed records stored.now start) }
 {
-    let mut lines = Vec::new(heap);
+    let mut names = Vec::new(heap);
     let mut reader = Reader::new(stored);
     // a number of records, by which nothing is looked up
     for _i in 0..records {
         let Ok(Some(item)) = reader.next() else {
-            return Ok(lines);
+            return Ok(names);
         };
-        add_line(heap, &mut lines, item)?;
+        add_name(heap, &mut names, item)?;
     }
-    Ok(lines)
+    Ok(names)
 }

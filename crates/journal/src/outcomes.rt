@@ -1,12 +1,20 @@
 // What becomes of a journal: what is printed, what is reported, and whether it was replayed.
-ghost use Rattle.std.specs.Prelude.{◌≡◌, IfOk, codes};
-ghost use Rattle.journal.specs.Outcomes.{shown, unread, declined, replayed, blank};
+ghost use Rattle.std.specs.Prelude.{◌≡◌, IfOk, map, codes};
+ghost use Rattle.process.specs.Accepted.{tables_of};
+ghost use Rattle.model.specs.Sheet.{blank};
+ghost use Rattle.model.specs.Summaries.{summary_of};
+ghost use Rattle.sheet.specs.Summaries.{summary_told};
+ghost use Rattle.journal.specs.Outcomes.{shown, unread, declined, replayed, unstarted};
+ghost use Rattle.journal.specs.Summaries.{summary_shown};
 
 use crate::Unreadable;
 use crate::answers::{Answer, AnswerLine};
-use crate::summary::{RowCounts, StepLine, Summary};
+use crate::summary::Summary;
+use process::Process;
+use process::parts::Step;
+use sheet::{RowCounts, Summary as SheetSummary};
 use std::alloc::{AllocError, Global};
-use values::{Fault, Phase};
+use values::{Fault, Phase, RowState};
 
 /// What goes to standard output and to standard error, and whether the journal was accepted, so that the status is 0.
 #[derive(Drop)]
@@ -51,12 +59,13 @@ impl Outcome {
     pub(crate) fn replayed(
         heap: Global,
         line: usize,
-        arrows: usize,
+        process: &Process,
         summary: &Summary,
     ) -> Result<Outcome, AllocError>
-        ensures { IfOk result (λ x. shown x ≡ replayed line arrows summary.now) }
+        ensures { IfOk result (λ x. shown x ≡ replayed line (tables_of process.now) (summary_shown summary.now)) }
     {
-        let steps = summary.steps.len();
+        let steps = process.steps().len();
+        let arrows = process.arrows().len();
         let process = AnswerLine {
             line,
             word: "process",
@@ -71,17 +80,27 @@ impl Outcome {
     }
 }
 
-// The summary of a blank sheet.
-pub(crate) fn blank_summary(steps: Vec<StepLine>) -> Summary
-    ensures { result ≡ blank steps }
+// How a step stands that has no row.
+fn unstarted(step: &Step) -> Option<RowState>
+    ensures { result ≡ unstarted step.now }
 {
-    Summary {
-        calls: 0,
-        accepted: 0,
-        declined: 0,
+    (!step.private).then_some(RowState::Absent)
+}
+
+fn all_unstarted(heap: Global, steps: &[Step]) -> Result<Vec<Option<RowState>>, AllocError>
+    ensures { IfOk result (λ v. v.items ≡ map unstarted steps.now) }
+{
+    steps.iter().map(unstarted).collect(heap)
+}
+
+// What is told of a blank sheet of the process.
+pub(crate) fn blank_sheet(heap: Global, process: &Process) -> Result<SheetSummary, AllocError>
+    ensures { IfOk result (λ x. summary_told x ≡ summary_of (tables_of process.now) (blank 0)) }
+{
+    Ok(SheetSummary {
         phase: Phase::Forward,
         rollbacks: 0,
         rows: RowCounts::default(),
-        steps,
-    }
+        standings: all_unstarted(heap, process.steps())?,
+    })
 }

@@ -3,9 +3,10 @@ ghost use Rattle.std.specs.Prelude.{IfOk};
 ghost use Rattle.journal.specs.Run.{Ran, ProcessTold};
 ghost use Rattle.journal.specs.Settings.{journal};
 
-use crate::names::blank_lines;
-use crate::outcomes::{Outcome, blank_summary};
+use crate::names::step_names;
+use crate::outcomes::{Outcome, blank_sheet};
 use crate::settings::parse;
+use crate::summary::{CallCounts, Summary};
 use crate::{Journal, ParseError};
 use process::tables::Tables;
 use process::{COLUMN, LINE};
@@ -32,10 +33,10 @@ fn replay_blank(heap: Global, journal: &Journal) -> Result<Outcome, AllocError>
     let mut line = [0; LINE];
     match process::read(stored, tables, &mut column, &mut line) {
         Ok(process) => {
-            let steps = process.steps().len();
-            let arrows = process.arrows().len();
-            let lines = blank_lines(heap, stored, steps + 1)?;
-            Outcome::replayed(heap, journal.process_line, arrows, &blank_summary(lines))
+            let names = step_names(heap, stored, process.steps().len() + 1)?;
+            let sheet = blank_sheet(heap, &process)?;
+            let summary = Summary::new(heap, CallCounts::default(), sheet, names, None)?;
+            Outcome::replayed(heap, journal.process_line, &process, &summary)
         }
         Err(fault) => Outcome::declined(heap, journal.process_line, fault),
     }

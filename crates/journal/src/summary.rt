@@ -1,21 +1,22 @@
 // The summary of a run, and how it is printed.
 ghost use Rattle.std.specs.Prelude.{◌≡◌, ◌<◌, ◌++◌, IfOk, string_bytes, Some, codes};
-ghost use Rattle.journal.specs.Spelled.{phase_text, standing_text, rows_text, line_text, summary_text, shown_byte, shown_name};
+ghost use Rattle.std.specs.List.{zip};
+ghost use Rattle.sheet.specs.Summaries.{counts_told, summary_told};
+ghost use Rattle.journal.specs.Names.{texts};
+ghost use Rattle.journal.specs.Spelled.{phase_text, standing_text, rows_text, line_text, balance_text, summary_text, shown_byte, shown_name};
+ghost use Rattle.journal.specs.Summaries.{line_shown, lines_shown, summary_shown, joined};
 
+use sheet::{RowCounts, Summary as SheetSummary};
 use std::alloc::{AllocError, Global};
 use std::fmt;
 use values::{Phase, RowState};
 
-/// How many rows there are, and how many in each state.
+/// How many calls there were, and what became of them.
 #[derive(Clone, Copy, Default, Drop)]
-pub struct RowCounts {
+pub struct CallCounts {
     pub all: usize,
-    pub running: usize,
-    pub committed: usize,
-    pub dropped: usize,
-    pub due: usize,
-    pub undone: usize,
-    pub passed_over: usize,
+    pub accepted: usize,
+    pub declined: usize,
 }
 
 /// A step's name in printable bytes, and the state of its highest row; of a private step's none is told.
@@ -28,13 +29,13 @@ pub struct StepLine {
 /// What is told of a run at its end.
 #[derive(Drop)]
 pub struct Summary {
-    pub calls: usize,
-    pub accepted: usize,
-    pub declined: usize,
+    pub calls: CallCounts,
     pub phase: Phase,
     pub rollbacks: u16,
     pub rows: RowCounts,
     pub steps: Vec<StepLine>,
+    /// The ledger's balance, where it is wanted.
+    pub balance: Option<i64>,
 }
 
 // `Phase` and `RowState` are another crate's, so their words are told here by functions, and not by a Display.
@@ -63,8 +64,12 @@ fn standing_word(standing: Option<RowState>) -> &'static str
     }
 }
 
-impl fmt::Display for RowCounts {
-    ghost output = { λ x. Some (rows_text x) };
+// The counts of rows as they are printed.
+#[derive(Clone, Copy, Drop)]
+struct RowsText(RowCounts);
+
+impl fmt::Display for RowsText {
+    ghost output = { λ x. Some (rows_text (counts_told x.0)) };
 
     fn fmt<W: fmt::Write>(&self, f: &mut fmt::Formatter<W>) -> fmt::Result {
         let RowCounts {
@@ -75,7 +80,7 @@ impl fmt::Display for RowCounts {
             due,
             undone,
             passed_over,
-        } = *self;
+        } = self.0;
         write!(f, "rows {all} running {running} committed {committed}")?;
         write!(
             f,
@@ -85,7 +90,7 @@ impl fmt::Display for RowCounts {
 }
 
 impl fmt::Display for StepLine {
-    ghost output = { λ x. Some (line_text x) };
+    ghost output = { λ x. Some (line_text (line_shown x)) };
 
     fn fmt<W: fmt::Write>(&self, f: &mut fmt::Formatter<W>) -> fmt::Result {
         let name = self.name.as_str();
@@ -94,19 +99,37 @@ impl fmt::Display for StepLine {
     }
 }
 
-impl fmt::Display for Summary {
-    ghost output = { λ x. Some (summary_text x) };
+// The line of a balance, where it is wanted.
+#[derive(Clone, Copy, Drop)]
+struct BalanceText(Option<i64>);
+
+impl fmt::Display for BalanceText {
+    ghost output = { λ x. Some (balance_text x.0) };
 
     fn fmt<W: fmt::Write>(&self, f: &mut fmt::Formatter<W>) -> fmt::Result {
-        let calls = self.calls;
-        let accepted = self.accepted;
-        let declined = self.declined;
+        match self.0 {
+            Some(balance) => write!(f, "balance {balance}\n"),
+            None => Ok(()),
+        }
+    }
+}
+
+impl fmt::Display for Summary {
+    ghost output = { λ x. Some (summary_text (summary_shown x)) };
+
+    fn fmt<W: fmt::Write>(&self, f: &mut fmt::Formatter<W>) -> fmt::Result {
+        let CallCounts {
+            all,
+            accepted,
+            declined,
+        } = self.calls;
         let phase = phase_word(self.phase);
         let rollbacks = self.rollbacks;
-        let rows = self.rows;
+        let rows = RowsText(self.rows);
+        let balance = BalanceText(self.balance);
         write!(
             f,
-            "summary\ncalls {calls} accepted {accepted} declined {declined}\n"
+            "summary\ncalls {all} accepted {accepted} declined {declined}\n"
         )?;
         write!(f, "phase {phase} rollbacks {rollbacks}\n")?;
         write!(f, "{rows}\n")?;
@@ -114,7 +137,7 @@ impl fmt::Display for Summary {
             let n = n + 1;
             write!(f, "step {n} {step}\n")?;
         }
-        Ok(())
+        write!(f, "{balance}")
     }
 }
 
@@ -136,10 +159,52 @@ pub fn printable_name(heap: Global, name: &[u8]) -> Result<String, AllocError>
     name.iter().map(|b| printable_char(*b)).collect(heap)
 }
 
+// The lines of the steps, by their names and how they stand.
+fn step_lines(
+    heap: Global,
+    names: Vec<String>,
+    standings: Vec<Option<RowState>>,
+) -> Result<Vec<StepLine>, AllocError>
+    ensures { IfOk result (λ v. lines_shown v ≡ zip (texts names) standings.items) }
+{
+    names
+        .into_iter()
+        .zip(standings)
+        .map(|(name, standing)| StepLine { name, standing })
+        .collect(heap)
+}
+
 impl Summary {
+    // The summary of a run with these calls that ends with that sheet, of a process whose steps have these names.
+    pub(crate) fn new(
+        heap: Global,
+        calls: CallCounts,
+        sheet: SheetSummary,
+        names: Vec<String>,
+        balance: Option<i64>,
+    ) -> Result<Summary, AllocError>
+        ensures { IfOk result (λ x.
+            summary_shown x ≡ joined calls (summary_told sheet) (texts names) balance) }
+    {
+        let SheetSummary {
+            phase,
+            rollbacks,
+            rows,
+            standings,
+        } = sheet;
+        Ok(Summary {
+            calls,
+            phase,
+            rollbacks,
+            rows,
+            steps: step_lines(heap, names, standings)?,
+            balance,
+        })
+    }
+
     /// The summary's lines.
     pub fn render(&self, heap: Global) -> Result<String, AllocError>
-        ensures { IfOk result (λ t. string_bytes t ≡ summary_text self.now) }
+        ensures { IfOk result (λ t. string_bytes t ≡ summary_text (summary_shown self.now)) }
     {
         self.to_string(heap)
     }

@@ -2,6 +2,9 @@
 #![tactic(auto)]
 
 #[cfg(test)]
+mod printing;
+
+#[cfg(test)]
 mod tests {
     use journal::{ParseError, parse, run};
     use std::alloc::Global;

@@ -26,6 +26,7 @@ use Rattle.model.specs.Calls.{finish_fault, park_fault, resume_fault, listing_fa
 use Rattle.model.specs.Run.{World, Lent, Event, start, end, abort, undo, finish, park, resume, listing, reply, lend}
 use Rattle.model.specs.Run.{control, column_after, over, world, decide, does, runs, History, Leads, nothing, one_more}
 use Rattle.model.specs.Histories.{Alike, same, swapped, AllAlike, none, more, events_of}
+use Rattle.model.specs.Summaries.{summary_of, PrivateEntriesChangeNoSummary}
 use Rattle.model.proofs.Hosts.{all_dropped_view}
 
 -- ── the same but for entries ──
@@ -261,15 +262,22 @@ leads_runs c first (one_more {h = h} {w = w} l e) =
     ∙ sym (runs_more c first (events_of h) e)
     ∙ ap (λ es. (runs c first es).0) (sym (map-append (λ (x : Event × Answer). x.0) h ((e, (does c w e).1) ∷ [])))
 
+-- histories that differ only in lawful entries of private starts lead to worlds that do
+ends : (c : Chart) (first : World) {h g : History} {w v : World} → Leads c first h w → Leads c first g v
+    → AllAlike c (events_of h) (events_of g) → Twin c w v
+ends c first {w = w} {v = v} lw lv alike =
+    subst (λ u. Twin c u v) (sym (leads_runs c first lw))
+    (subst (Twin c _) (sym (leads_runs c first lv)) (twin_runs c alike first first (plain (λ k _. refl))))
+
 -- every other run that differs only in lawful entries of private starts gives the same answer and the same bytes
 pub secret_run : (c : Chart) (first : World) {h g : History} {w v : World} {e f : Event}
     → Leads c first h w → Leads c first g v → AllAlike c (events_of h) (events_of g) → Alike c e f
     → ((does c v f).1 ≡ (does c w e).1) × ((does c v f).0.lent ≡ (does c w e).0.lent)
 secret_run c first {w = w} {v = v} lw lv before now =
-    let results = twin_does c now w v ends in
+    let results = twin_does c now w v (ends c first lw lv before) in
     (results.answer, results.worlds.on-lent)
-  where
-    ends : Twin c w v
-    ends =
-        subst (λ u. Twin c u v) (sym (leads_runs c first lw))
-        (subst (Twin c _) (sym (leads_runs c first lv)) (twin_runs c before first first (plain (λ k _. refl))))
+
+-- and the same summary: it looks at no entry
+pub secret_summary : PrivateEntriesChangeNoSummary
+secret_summary c s first g h v w lv lw alike is =
+    ap (summary_of c) (ends c first lv lw alike).on-sheet ∙ ap (summary_of c) is

@@ -13,5 +13,6 @@ pub mod Sheets
 pub mod Listings
 pub mod Replies
 pub mod Histories
+pub mod Summaries
 pub mod Examples
 pub mod Laws

@@ -6,6 +6,7 @@ ghost use Rattle.model.specs.Examples.{ExamplesShow};
 ghost use Rattle.model.specs.Histories.{LawOverEveryRun};
 ghost use Rattle.model.specs.Laws.{SheetsAreOrderly, AfterIsReachedByArrows, StruckSetIsTheLeast, AbortsFall};
 ghost use Rattle.model.specs.Laws.{ListingsAreExact, ListingsStay, RepliesTell};
+ghost use Rattle.model.specs.Summaries.{PrivateEntriesChangeNoSummary};
 
 /// The eight worked examples, computed from the definitions.
 pub fn examples_show()
@@ -51,4 +52,9 @@ pub fn listings_stay()
 /// Each field of a reply, read back from its bytes.
 pub fn replies_tell()
     ensures { RepliesTell }
+{}
+
+/// The summary of a sheet is the same whatever the private entries are.
+pub fn private_entries_change_no_summary()
+    ensures { PrivateEntriesChangeNoSummary }
 {}

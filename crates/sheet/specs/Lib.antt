@@ -8,3 +8,4 @@ pub mod Reports
 pub mod Lent
 pub mod Happenings
 pub mod Runs
+pub mod Summaries

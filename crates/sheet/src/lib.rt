@@ -10,6 +10,6 @@ mod ticket;
 
 pub use events::{Event, Sizes, Taken};
 pub use memory::Memory;
-pub use replay::Competition;
-pub use sheets::Sheet;
+pub use replay::{Competition, Replayed};
+pub use sheets::{RowCounts, Sheet, Summary};
 pub use ticket::Ticket;

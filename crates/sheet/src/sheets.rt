@@ -13,7 +13,10 @@ mod phases;
 mod reads;
 mod replies;
 mod starts;
+mod summaries;
 mod undos;
+
+pub use summaries::{RowCounts, Summary};
 
 /// The sheet of one competition: the process that it follows, its rows, and where it stands.
 // no `Model`: its value can hold no functions, and the model's sheet has its rows as functions of their numbers

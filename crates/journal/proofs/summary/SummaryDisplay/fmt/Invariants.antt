@@ -1,8 +1,11 @@
 -- The lines of the steps so far are written.
-use Rattle.std.proofs.Common.{take}
+use Rattle.std.proofs.Common.{map, take}
 use Rattle.std.specs.Fmt.{HasWritten, IsPlainFormatter}
 use Rattle.journal.specs.Spelled.{steps_text}
+use Rattle.journal.specs.Summaries.{line_shown}
 use Rattle.journal.proofs.summary.SummaryDisplay.fmt.Given as goal
 
 abbrev pub invariant-loop-n : goal.invariant-loop-n
-invariant-loop-n g l = IsPlainFormatter l.initial.f → HasWritten g.W.Write.write_str_gives l.initial.f (steps_text 1 (take l.n l.step-items)) l.f
+invariant-loop-n g l =
+    IsPlainFormatter l.initial.f
+    → HasWritten g.W.Write.write_str_gives l.initial.f (steps_text 1 (map line_shown (take l.n l.step-items))) l.f
