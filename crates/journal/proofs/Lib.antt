@@ -4,3 +4,4 @@ pub mod Hex
 pub mod Reading
 pub mod Records
 pub mod Steps
+pub mod Parts

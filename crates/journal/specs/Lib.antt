@@ -1,4 +1,5 @@
 pub mod Text
+pub mod Calls
 pub mod Settings
 pub mod Spelled
 pub mod Outcomes
