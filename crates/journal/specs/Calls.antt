@@ -18,7 +18,7 @@ use Rattle.sheet.specs.declared.events.Event.TheVariants as event
 use Rattle.sheet.specs.declared.events.Sizes.{Sizes}
 use Rattle.journal.specs.declared.Wrong.{Wrong}
 use Rattle.journal.specs.declared.Wrong.TheVariants.{TooFewWords, NotATicket, NotAKind, NotAMode, NotAHost}
-use Rattle.journal.specs.declared.calls.Line.{Line}
+use Rattle.journal.specs.declared.events.Line.{Line}
 use Rattle.journal.specs.declared.calls.CallWord.{CallWord}
 use Rattle.journal.specs.declared.calls.CallWord.TheVariants as word
 use Rattle.journal.specs.Text.{and_then, only, no_words, two, four, five, number}

@@ -13,7 +13,7 @@ use Rattle.journal.specs.declared.ParseError.{ParseError}
 use Rattle.journal.specs.declared.ParseError.TheVariants as parse_error
 use Rattle.journal.specs.declared.Unreadable.{Unreadable}
 use Rattle.journal.specs.declared.Journal.{Journal}
-use Rattle.journal.specs.declared.calls.Line.{Line}
+use Rattle.journal.specs.declared.events.Line.{Line}
 use Rattle.journal.specs.declared.calls.CallWord.{CallWord}
 use Rattle.journal.specs.declared.settings.Draft.{Draft}
 use Rattle.journal.specs.declared.settings.Keyword.{Keyword}
@@ -65,7 +65,8 @@ stated (Some k) c ws = spoken k ws
 stated None (Some c) ws = and_then (called c ws) (λ x. Ok (call_is x))
 stated None None ws = Err UnknownWord
 
--- what a line of these words says; `clean` if each of its bytes may stand in a line, which a comment need not be
+-- What a line of these words says; `clean` if each of its bytes may stand in a line, which a comment need not be. Of several faults
+-- the first counts: a stray byte, an unknown first word, too few or too many words, and then each word from left to right
 abbrev pub by_words : List (List ℕ) → Bool → Result Said Wrong
 by_words [] clean = Ok nothing
 by_words (w ∷ ws) clean = cond (slice_index w 0 == 35) (Ok nothing) (cond clean (stated (keyword w) (call_word w) ws) (Err StrayByte))

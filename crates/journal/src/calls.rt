@@ -1,68 +1,21 @@
-// The lines after the settings: calls, other lent memory, and commands for the hosts.
+// Reading the lines after the settings: calls, other lent memory, and commands for the hosts.
 ghost use Rattle.std.specs.Prelude.{◌≡◌};
 ghost use Rattle.journal.specs.Text.{Told, ToldUnlessFull, number as number_said, words};
-ghost use Rattle.journal.specs.Calls.{call_of, call_text, turn_text, call_word as named};
+ghost use Rattle.journal.specs.Calls.{call_of, call_word as named};
 ghost use Rattle.journal.specs.Calls.{started, only_number, only_ticket, mode_named, mode, undone, only_turned, sizes, called};
 
+use crate::events::{Command, HostEvent, Turn};
 use crate::fields::{amount, command, kind, rows, ticket};
 use crate::text::{
     five_words, four_words, no_words, number, only_word, short_number, split_word, two_words,
 };
 use crate::{LineError, Wrong};
-use host::{NoCommand, PairCommand, SwitchCommand};
+use host::SwitchCommand;
 use sheet::{Event, Sizes};
 use std::alloc::Global;
 use values::{Entry, Mode, TicketNumber};
 
-/// What turns the switch of a host.
-pub type Turn = SwitchCommand<NoCommand>;
-
-/// A command for the program's hosts: the first is the ledger, which takes fees, and the second the score book.
-pub type Command = PairCommand<Turn, Turn>;
-
-/// What may happen in a competition with these hosts.
-pub type HostEvent = Event<Command>;
-
-/// A line after the settings: its number, and what it says.
-#[derive(Drop)]
-pub struct Line {
-    pub number: usize,
-    pub event: HostEvent,
-}
-
-fn turn_word(turn: Turn) -> &'static str
-    ensures { result.now ≡ turn_text turn }
-{
-    match turn {
-        SwitchCommand::On | SwitchCommand::Below(_) => "open",
-        SwitchCommand::Off => "shut",
-    }
-}
-
-impl Line {
-    /// The line's first word.
-    pub fn word(&self) -> &'static str
-        ensures { result.now ≡ call_text (call_of self.now.event) }
-    {
-        match &self.event {
-            Event::Start { .. } => "start",
-            Event::End { .. } => "end",
-            Event::Abort { .. } => "abort",
-            Event::Undo { .. } => "undo",
-            Event::Finish { .. } => "finish",
-            Event::Park { .. } => "park",
-            Event::Resume => "resume",
-            Event::Listing => "listing",
-            Event::Reply { .. } => "reply",
-            Event::Lend { .. } => "memory",
-            Event::Control { command } => match command {
-                PairCommand::First(turn) | PairCommand::Second(turn) => turn_word(*turn),
-            },
-        }
-    }
-}
-
-// The words that such a line may begin with.
+// The words that a line after the settings may begin with.
 #[derive(Clone, Copy, Drop)]
 pub(crate) enum CallWord {
     Start,

@@ -3,7 +3,7 @@ ghost use Rattle.std.specs.Prelude.{◌≡◌, ◌==◌, position};
 ghost use Rattle.journal.specs.Text.{ToldUnlessFull};
 ghost use Rattle.journal.specs.Calls.{ticket, rows, kind, signed, amount, turned};
 
-use crate::calls::{Command, Turn};
+use crate::events::{Command, Turn};
 use crate::text::{number, short_number};
 use crate::{LineError, Wrong};
 use host::PairCommand;

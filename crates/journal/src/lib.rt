@@ -7,6 +7,7 @@ ghost use Rattle.journal.specs.declared.ParseError.TheVariants.{Unreadable as Un
 
 mod answers;
 mod calls;
+mod events;
 mod fields;
 mod names;
 mod outcomes;
@@ -17,7 +18,7 @@ mod text;
 mod wrongs;
 
 pub use answers::Answer;
-pub use calls::{Command, HostEvent, Line, Turn};
+pub use events::{Command, HostEvent, Line, Turn};
 pub use outcomes::Outcome;
 pub use replay::run;
 pub use settings::parse;

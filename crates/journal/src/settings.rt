@@ -7,7 +7,8 @@ ghost use Rattle.journal.specs.Settings.{keyword as named, spoken, stated, said,
 ghost use Rattle.journal.specs.Settings.{sofar, no_settings, require, after_serial, before_calls, admitted, stored};
 ghost use Rattle.journal.specs.Settings.{said_after, at_line, after_line, completed, contents, Parsed, journal};
 
-use crate::calls::{HostEvent, Line, call, call_word};
+use crate::calls::{call, call_word};
+use crate::events::{HostEvent, Line};
 use crate::text::{
     check_hex, decode, is_clean, is_comment, only_word, short_number, split_word, unended,
 };
@@ -195,9 +196,7 @@ impl Draft {
     fn take(&mut self, heap: Global, number: usize, line: &[u8]) -> Result<(), ParseError>
         ensures { Parsed result (λ _. sofar self.new) (after_line number line.now (sofar self.old)) }
     {
-        let statement = self
-            .read(heap, line)
-            .map_err(|error| error.at(number))?;
+        let statement = self.read(heap, line).map_err(|error| error.at(number))?;
         if let Some(statement) = statement {
             self.store(heap, number, statement)?;
         }

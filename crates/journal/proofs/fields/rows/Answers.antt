@@ -1,7 +1,6 @@
 -- Each turn reads one part, and refuses the word where it says no number.
-use Rattle.std.proofs.Common.{rules, ◌≡◌, ℕ, cond, List, Ok, [], ◌∷◌, ◌++◌, Result, ap, sym, ◌∙◌, ap₂, append-nil, eqb, codes}
+use Rattle.std.proofs.Common.{rules, ◌≡◌, ℕ, cond, List, Ok, [], ◌∷◌, ◌++◌, ap, sym, ◌∙◌, ap₂, append-nil, eqb}
 use Rattle.std.specs.Slice.Iter.{split_rest, split_done}
-use Rattle.std.specs.Str.{bytes_eq}
 use Rattle.std.proofs.lemmas.Fn.{always_returns_same}
 use Rattle.std.proofs.lemmas.Result.{err_from_is_err_and}
 use Rattle.journal.specs.Calls.{parts, numbers, rows}
@@ -41,5 +40,5 @@ pub returns : goal.returns
 returns c =
     let listed : rows c.args.word.now ≡ numbers (parts c.args.word.now) = search rules in
     let ended : left (split_rest c.loop-part.part-iterator) (split_done c.loop-part.part-iterator) ≡ [] =
-        ap (λ b. cond b [] (parts (split_rest c.loop-part.part-iterator))) c.in-None.ensures.steps.0 in
+    ap (λ b. cond b [] (parts (split_rest c.loop-part.part-iterator))) c.in-None.ensures.steps.0 in
     listed ∙ sym c.loop-part.invariant ∙ ap (followed c.loop-part.rows.items) ended ∙ ap Ok (append-nil c.loop-part.rows.items)
