@@ -1,4 +1,4 @@
-// The settings of a journal: what each line says, and the order that the lines keep.
+// The lines of a journal: what each says, and the order that they keep.
 ghost use Rattle.std.specs.Prelude.{◌≡◌, OnErr, OnOk};
 ghost use Rattle.std.specs.Option.{option_map};
 ghost use Rattle.journal.specs.Text.{Told, ToldUnlessFull, words};
