@@ -5,3 +5,4 @@ pub mod Reading
 pub mod Records
 pub mod Steps
 pub mod Blank
+pub mod Parts

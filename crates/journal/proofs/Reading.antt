@@ -6,8 +6,8 @@ use Rattle.std.proofs.Math.Seq.{take-append_seam, get_or-append_seam}
 use Rattle.journal.specs.declared.ParseError.{ParseError}
 use Rattle.journal.specs.declared.ParseError.TheVariants as parse_error
 use Rattle.journal.specs.declared.Unreadable.{Unreadable}
-use Rattle.journal.specs.Text.{trimmed, unless_empty, unended, lines_after, lines}
-use Rattle.journal.specs.Settings.{and_then, after_line, read_on, Parsed, Settings, Contents}
+use Rattle.journal.specs.Text.{and_then, trimmed, unless_empty, unended, lines_after, lines}
+use Rattle.journal.specs.Settings.{after_line, read_on, Parsed, Settings, Contents}
 
 -- what a last byte makes of a line
 module _ (line : List ℕ) (b : ℕ) where

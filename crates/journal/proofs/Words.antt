@@ -1,5 +1,5 @@
 -- Words are cut off a line's front. Assumes nothing.
-use Rattle.std.proofs.Common.{◌≡◌, ℕ, ◌-◌, ◌<◌, ◌≤◌, Bool, true, false, not, List, [], ◌∷◌, ◌++◌, length, get_or, take, drop, Some, None, sym, refl, ap, ◌∙◌, subst, append_assoc, append-nil, one-add, arith}
+use Rattle.std.proofs.Common.{◌≡◌, ℕ, ◌-◌, ◌<◌, ◌≤◌, Bool, true, false, not, List, [], ◌∷◌, ◌++◌, length, take, drop, Some, None, sym, refl, ap, ◌∙◌, subst, append_assoc, append-nil, one-add, arith}
 use Rattle.std.specs.List.{prefix_len, position}
 use Rattle.std.proofs.lemmas.List.{take_all, drop_all, length-drop}
 use Rattle.std.proofs.lemmas.Bool.Decides.{nat_tests}
@@ -70,19 +70,3 @@ module _ (line : List ℕ) (m : ℕ) (found : Some m ≡ position (λ b. not (bl
               → unless_empty (take (solids (b ∷ bs)) (b ∷ bs)) (words (drop (solids (b ∷ bs)) (b ∷ bs))) ≡ take (solids (b ∷ bs)) (b ∷ bs) ∷ words (drop (solids (b ∷ bs)) (b ∷ bs))
           step true e l = absurd (omega (arith, rw e at l))
           step false e l = rw (e, one-add) refl
-
--- a word by its bytes
-pub six_bytes : (w : List ℕ) → length w ≡ 6 → w ≡ get_or w 0 0 ∷ get_or w 1 0 ∷ get_or w 2 0 ∷ get_or w 3 0 ∷ get_or w 4 0 ∷ get_or w 5 0 ∷ []
-six_bytes (a ∷ b ∷ c ∷ d ∷ e ∷ f ∷ []) l = refl
-six_bytes [] l = absurd (omega arith)
-six_bytes (a ∷ []) l = absurd (omega arith)
-six_bytes (a ∷ b ∷ []) l = absurd (omega arith)
-six_bytes (a ∷ b ∷ c ∷ []) l = absurd (omega arith)
-six_bytes (a ∷ b ∷ c ∷ d ∷ []) l = absurd (omega arith)
-six_bytes (a ∷ b ∷ c ∷ d ∷ e ∷ []) l = absurd (omega arith)
-six_bytes (a ∷ b ∷ c ∷ d ∷ e ∷ f ∷ g ∷ w) l = absurd (omega arith)
-
-pub seven_bytes : (w : List ℕ) → length w ≡ 7
-    → w ≡ get_or w 0 0 ∷ get_or w 1 0 ∷ get_or w 2 0 ∷ get_or w 3 0 ∷ get_or w 4 0 ∷ get_or w 5 0 ∷ get_or w 6 0 ∷ []
-seven_bytes [] l = absurd (omega arith)
-seven_bytes (a ∷ w) l = ap (λ t. a ∷ t) (six_bytes w (omega arith))

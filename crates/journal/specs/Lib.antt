@@ -1,4 +1,5 @@
 pub mod Text
+pub mod Calls
 pub mod Settings
 pub mod Summaries
 pub mod Spelled

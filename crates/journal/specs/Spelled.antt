@@ -12,6 +12,7 @@ use Rattle.model.specs.Summaries.{Counts}
 use Rattle.journal.specs.declared.Wrong.{Wrong}
 use Rattle.journal.specs.declared.Wrong.TheVariants.{StrayByte, UnknownWord, TooFewWords, TooManyWords, NotANumber, NumberTooLarge}
 use Rattle.journal.specs.declared.Wrong.TheVariants.{NotHex, OddHex, MissingProcess, MissingSerial, Repeated}
+use Rattle.journal.specs.declared.Wrong.TheVariants.{MissingNumber, NotATicket, NotAKind, NotAMode, NotAHost, LateSetting}
 use Rattle.journal.specs.declared.ParseError.{ParseError}
 use Rattle.journal.specs.declared.ParseError.TheVariants as parse_error
 use Rattle.journal.specs.declared.Unreadable.{Unreadable}
@@ -34,6 +35,12 @@ wrong_text OddHex = codes "the process has an odd number of hex digits"
 wrong_text MissingProcess = codes "the process must come first"
 wrong_text MissingSerial = codes "the serial must come straight after the process"
 wrong_text Repeated = codes "this setting was given before"
+wrong_text MissingNumber = codes "a number is missing in a list or a ticket"
+wrong_text NotATicket = codes "a ticket has no slash between its numbers"
+wrong_text NotAKind = codes "the kind is neither score nor fee"
+wrong_text NotAMode = codes "an abort is neither complete nor partial"
+wrong_text NotAHost = codes "the host is neither ledger nor scores"
+wrong_text LateSetting = codes "a setting comes after a call"
 
 abbrev pub report : Unreadable → List ℕ
 report u = codes "line " ++ (decimal u.line ++ (codes ": " ++ wrong_text u.wrong))

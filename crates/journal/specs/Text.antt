@@ -1,13 +1,27 @@
 -- The bytes of a journal: its lines, words, numbers and hex digits. Assumes nothing.
 use Rattle.std.specs.Prelude.{◌≡◌, ℕ, ◌+◌, ◌-◌, ◌*◌, ◌%◌, Bool, cond, ◌&&◌, ◌||◌, List, [], ◌∷◌, ◌++◌, length, take, is_some, Some, None, Ok, Err, fold, Option, Result, MatchResult, ◌==◌, nat_le, slice_index}
+use Rattle.std.specs.Bool.{⊤}
 use Rattle.std.specs.List.{list_all}
 use Rattle.std.specs.Option.{unwrap_or}
+use Rattle.journal.specs.declared.LineError.{LineError}
+use Rattle.journal.specs.declared.LineError.TheVariants as line_error
 use Rattle.journal.specs.declared.Wrong.{Wrong}
-use Rattle.journal.specs.declared.Wrong.TheVariants.{TooFewWords, TooManyWords, NotANumber, NumberTooLarge, NotHex, OddHex}
+use Rattle.journal.specs.declared.Wrong.TheVariants.{TooFewWords, TooManyWords, NotANumber, MissingNumber, NumberTooLarge, NotHex, OddHex}
 
 -- r is the answer a, seen through `view`
 abbrev pub Told : {A B E : Type 0} → Result A E → (A → B) → Result B E → Type 0
 Told r view a = MatchResult r (λ x. a ≡ Ok (view x)) (λ e. a ≡ Err e)
+
+-- unless memory ran out, r is the answer a, seen through `view`
+abbrev pub ToldUnlessFull : {A B : Type 0} → Result A LineError → (A → B) → Result B Wrong → Type 0
+ToldUnlessFull (Ok x) view a = a ≡ Ok (view x)
+ToldUnlessFull (Err (line_error.Wrong w)) view a = a ≡ Err w
+ToldUnlessFull (Err (line_error.Memory e)) view a = ⊤
+
+-- one after the other, up to the first that is refused
+abbrev pub and_then : {A B E : Type 0} → Result A E → (A → Result B E) → Result B E
+and_then (Ok a) k = k a
+and_then (Err e) k = Err e
 
 -- a line or a word before others, unless it is empty
 abbrev pub unless_empty : List ℕ → List (List ℕ) → List (List ℕ)
@@ -67,13 +81,31 @@ only [] = Err TooFewWords
 only (w ∷ []) = Ok w
 only (w ∷ v ∷ ws) = Err TooManyWords
 
+-- the same of no words, of two, of four and of five
+abbrev pub no_words : List (List ℕ) → Result (Unit {0}) Wrong
+no_words [] = Ok tt
+no_words (w ∷ ws) = Err TooManyWords
+
+abbrev pub two : List (List ℕ) → Result (List ℕ × List ℕ) Wrong
+two [] = Err TooFewWords
+two (w ∷ ws) = and_then (only ws) (λ v. Ok (w, v))
+
+abbrev pub four : List (List ℕ) → Result (List ℕ × List ℕ × List ℕ × List ℕ) Wrong
+four [] = Err TooFewWords
+four (w ∷ []) = Err TooFewWords
+four (w ∷ v ∷ ws) = and_then (two ws) (λ p. Ok (w, v, p.0, p.1))
+
+abbrev pub five : List (List ℕ) → Result (List ℕ × List ℕ × List ℕ × List ℕ × List ℕ) Wrong
+five [] = Err TooFewWords
+five (w ∷ ws) = and_then (four ws) (λ p. Ok (w, p.0, p.1, p.2, p.3))
+
 -- what decimal digits say
 abbrev pub value : List ℕ → ℕ
 value ds = fold (λ v b. 10 * v + (b - 48)) 0 ds
 
 -- the number that a word says: decimal digits, at least one, and at most the limit
 abbrev pub number : ℕ → List ℕ → Result ℕ Wrong
-number limit [] = Err NotANumber
+number limit [] = Err MissingNumber
 number limit (d ∷ ds) =
     cond (list_all digit (d ∷ ds)) (cond (nat_le (value (d ∷ ds)) limit) (Ok (value (d ∷ ds))) (Err NumberTooLarge)) (Err NotANumber)
 

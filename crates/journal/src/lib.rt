@@ -2,10 +2,14 @@
 #![tactic(auto)]
 
 ghost use Rattle.std.specs.Prelude.{◌≡◌};
+ghost use Rattle.journal.specs.declared.LineError.TheVariants.{Wrong as WrongLine, Memory as NoMemory};
 ghost use Rattle.journal.specs.declared.ParseError.TheVariants.{Unreadable as UnreadableLine, Memory};
 
 mod answers;
 mod lists;
+mod calls;
+mod events;
+mod fields;
 mod names;
 mod outcomes;
 mod replay;
@@ -15,6 +19,7 @@ mod text;
 mod wrongs;
 
 pub use answers::Answer;
+pub use events::{Command, HostEvent, Line, Turn};
 pub use outcomes::Outcome;
 pub use replay::run;
 pub use settings::parse;
@@ -36,6 +41,12 @@ pub enum Wrong {
     MissingProcess,
     MissingSerial,
     Repeated,
+    MissingNumber,
+    NotATicket,
+    NotAKind,
+    NotAMode,
+    NotAHost,
+    LateSetting,
 }
 
 /// A line that cannot be read: its number, from 1, and what is wrong with it.
@@ -50,6 +61,29 @@ pub struct Unreadable {
 pub enum ParseError {
     Unreadable(Unreadable),
     Memory(AllocError),
+}
+
+// Why one line was not read: what is wrong with it, or no memory.
+#[derive(Clone, Copy, Drop)]
+pub(crate) enum LineError {
+    Wrong(Wrong),
+    Memory(AllocError),
+}
+
+impl From<Wrong> for LineError {
+    ghost from_gives = { λ wrong error. error ≡ WrongLine wrong };
+
+    fn from(wrong: Wrong) -> LineError {
+        LineError::Wrong(wrong)
+    }
+}
+
+impl From<AllocError> for LineError {
+    ghost from_gives = { λ e error. error ≡ NoMemory e };
+
+    fn from(error: AllocError) -> LineError {
+        LineError::Memory(error)
+    }
 }
 
 impl From<Unreadable> for ParseError {
@@ -68,7 +102,7 @@ impl From<AllocError> for ParseError {
     }
 }
 
-/// A journal: the stored process and the number of its line, and the settings.
+/// A journal: the stored process and the number of its line, the settings, and the calls in order.
 #[derive(Drop)]
 pub struct Journal {
     pub process: Vec<u8>,
@@ -76,4 +110,5 @@ pub struct Journal {
     pub serial: u16,
     pub scores: u16,
     pub ledger: u16,
+    pub lines: Vec<Line>,
 }

@@ -1,18 +1,21 @@
-// The settings of a journal: what each line says, and the order that the lines keep.
+// The lines of a journal: what each says, and the order that they keep.
 ghost use Rattle.std.specs.Prelude.{◌≡◌, OnErr, OnOk};
 ghost use Rattle.std.specs.Option.{option_map};
-ghost use Rattle.journal.specs.Text.{Told, words};
-ghost use Rattle.journal.specs.Settings.{keyword as named, spoken, said, meant, meant_if};
-ghost use Rattle.journal.specs.Settings.{sofar, no_settings, require, after_serial, admitted, stored};
+ghost use Rattle.journal.specs.Text.{Told, ToldUnlessFull, words};
+ghost use Rattle.journal.specs.Calls.{call_word as call_named};
+ghost use Rattle.journal.specs.Settings.{keyword as named, spoken, stated, said, meant, meant_if};
+ghost use Rattle.journal.specs.Settings.{sofar, no_settings, require, after_serial, before_calls, admitted, stored};
 ghost use Rattle.journal.specs.Settings.{said_after, at_line, after_line, completed, contents, Parsed, journal};
 
+use crate::calls::{call, call_word};
+use crate::events::{HostEvent, Line};
 use crate::text::{
     check_hex, decode, is_clean, is_comment, only_word, short_number, split_word, unended,
 };
-use crate::{Journal, ParseError, Unreadable, Wrong};
+use crate::{Journal, LineError, ParseError, Unreadable, Wrong};
 use std::alloc::{AllocError, Global};
 
-// The words that a line may begin with.
+// The words that a setting may begin with.
 #[derive(Clone, Copy, Drop)]
 pub(crate) enum Keyword {
     Process,
@@ -22,12 +25,13 @@ pub(crate) enum Keyword {
 }
 
 // What a line says that is neither empty nor a comment; the process is still in hex digits.
-#[derive(Clone, Copy, Drop)]
+#[derive(Drop)]
 pub(crate) enum Statement<'a> {
     Process(&'a [u8]),
     Serial(u16),
     Scores(u16),
     Ledger(u16),
+    Call(HostEvent),
 }
 
 fn keyword_of(word: &[u8]) -> Option<Keyword>
@@ -58,9 +62,20 @@ fn setting(keyword: Keyword, rest: &[u8]) -> Result<Statement<'_>, Wrong>
     }
 }
 
+// A line with this first word, by what follows it.
+fn stated<'a>(heap: Global, word: &[u8], rest: &'a [u8]) -> Result<Statement<'a>, LineError>
+    ensures { ToldUnlessFull result meant (stated (named word.now) (call_named word.now) (words rest.now)) }
+{
+    if let Some(keyword) = keyword_of(word) {
+        return Ok(setting(keyword, rest)?);
+    }
+    let word = call_word(word).ok_or(Wrong::UnknownWord)?;
+    Ok(Statement::Call(call(heap, word, rest)?))
+}
+
 // What a line says; `None` if it is empty or a comment.
-fn read_line(line: &[u8]) -> Result<Option<Statement<'_>>, Wrong>
-    ensures { Told result meant_if (said line.now) }
+fn read_line(heap: Global, line: &[u8]) -> Result<Option<Statement<'_>>, LineError>
+    ensures { ToldUnlessFull result meant_if (said line.now) }
 {
     let Some((word, rest)) = split_word(line) else {
         return Ok(None);
@@ -69,13 +84,12 @@ fn read_line(line: &[u8]) -> Result<Option<Statement<'_>>, Wrong>
         return Ok(None);
     }
     if !is_clean(line) {
-        return Err(Wrong::StrayByte);
+        return Err(Wrong::StrayByte.into());
     }
-    let keyword = keyword_of(word).ok_or(Wrong::UnknownWord)?;
-    Ok(Some(setting(keyword, rest)?))
+    Ok(Some(stated(heap, word, rest)?))
 }
 
-// The settings that were read so far; the process with the number of its line.
+// The settings and the calls that were read so far; the process and each call with the number of its line.
 // Serial, scores and ledger are all numbers, but each has an order and a default of its own: a list of numbers would hide which is which.
 #[derive(Drop)]
 pub(crate) struct Draft {
@@ -83,6 +97,7 @@ pub(crate) struct Draft {
     serial: Option<u16>,
     scores: Option<u16>,
     ledger: Option<u16>,
+    lines: Vec<Line>,
 }
 
 // Refuses where the condition fails.
@@ -93,7 +108,7 @@ fn require(condition: bool, wrong: Wrong) -> Result<(), Wrong>
 }
 
 impl Draft {
-    fn new() -> Draft
+    fn new(heap: Global) -> Draft
         ensures { sofar result ≡ no_settings }
     {
         Draft {
@@ -101,6 +116,7 @@ impl Draft {
             serial: None,
             scores: None,
             ledger: None,
+            lines: Vec::new(heap),
         }
     }
 
@@ -112,9 +128,17 @@ impl Draft {
         require(self.serial.is_some(), Wrong::MissingSerial)
     }
 
+    // Refuses a setting after a call, also.
+    fn before_calls(&self) -> Result<(), Wrong>
+        ensures { result ≡ before_calls (sofar self.now) }
+    {
+        self.after_serial()?;
+        require(self.lines.is_empty(), Wrong::LateSetting)
+    }
+
     // Refuses a line out of its place.
-    fn admit(&self, statement: Statement<'_>) -> Result<(), Wrong>
-        ensures { result ≡ admitted (meant statement.entry) (sofar self.now) }
+    fn admit(&self, statement: &Statement<'_>) -> Result<(), Wrong>
+        ensures { result ≡ admitted (meant statement.now) (sofar self.now) }
     {
         match statement {
             Statement::Process(_) => require(self.process.is_none(), Wrong::Repeated),
@@ -123,13 +147,14 @@ impl Draft {
                 require(self.serial.is_none(), Wrong::Repeated)
             }
             Statement::Scores(_) => {
-                self.after_serial()?;
+                self.before_calls()?;
                 require(self.scores.is_none(), Wrong::Repeated)
             }
             Statement::Ledger(_) => {
-                self.after_serial()?;
+                self.before_calls()?;
                 require(self.ledger.is_none(), Wrong::Repeated)
             }
+            Statement::Call(_) => self.after_serial(),
         }
     }
 
@@ -141,23 +166,27 @@ impl Draft {
         statement: Statement<'_>,
     ) -> Result<(), AllocError>
         ensures kept { OnOk result (sofar self.new ≡ stored line (meant statement.entry) (sofar self.old)) }
-        ensures same { OnErr result (self.new ≡ self.old) }
+        ensures same { OnErr result (sofar self.new ≡ sofar self.old) }
     {
         match statement {
             Statement::Process(digits) => self.process = Some((line, decode(heap, digits)?)),
             Statement::Serial(n) => self.serial = Some(n),
             Statement::Scores(n) => self.scores = Some(n),
             Statement::Ledger(n) => self.ledger = Some(n),
+            Statement::Call(event) => self.lines.push(Line {
+                number: line,
+                event,
+            })?,
         }
         Ok(())
     }
 
     // What a line says, where it may stand here.
-    fn read<'a>(&self, line: &'a [u8]) -> Result<Option<Statement<'a>>, Wrong>
-        ensures { Told result meant_if (said_after (sofar self.now) line.now) }
+    fn read<'a>(&self, heap: Global, line: &'a [u8]) -> Result<Option<Statement<'a>>, LineError>
+        ensures { ToldUnlessFull result meant_if (said_after (sofar self.now) line.now) }
     {
-        let statement = read_line(line)?;
-        if let Some(statement) = statement {
+        let statement = read_line(heap, line)?;
+        if let Some(statement) = &statement {
             self.admit(statement)?;
         }
         Ok(statement)
@@ -167,7 +196,7 @@ impl Draft {
     fn take(&mut self, heap: Global, number: usize, line: &[u8]) -> Result<(), ParseError>
         ensures { Parsed result (λ _. sofar self.new) (after_line number line.now (sofar self.old)) }
     {
-        let statement = self.read(line).map_err(|wrong| wrong.at(number))?;
+        let statement = self.read(heap, line).map_err(|error| error.at(number))?;
         if let Some(statement) = statement {
             self.store(heap, number, statement)?;
         }
@@ -183,6 +212,7 @@ impl Draft {
             serial,
             scores,
             ledger,
+            lines,
         } = self;
         let (process_line, process) = process.ok_or(Wrong::MissingProcess.at(line))?;
         let serial = serial.ok_or(Wrong::MissingSerial.at(line))?;
@@ -192,15 +222,16 @@ impl Draft {
             serial,
             scores: scores.unwrap_or(256),
             ledger: ledger.unwrap_or(768),
+            lines,
         })
     }
 }
 
-/// Reads the whole text of a journal: the settings, or the first line that cannot be read and what is wrong with it.
+/// Reads the whole text of a journal: the settings and the calls, or the first line that cannot be read and what is wrong with it.
 pub fn parse(heap: Global, text: &[u8]) -> Result<Journal, ParseError>
     ensures { Parsed result contents (journal text.now) }
 {
-    let mut draft = Draft::new();
+    let mut draft = Draft::new(heap);
     // What is missing is told at the line after the last: the number is used after the loop.
     let mut line = 1;
     for ended in text.split_inclusive(|b| *b == b'\n') {

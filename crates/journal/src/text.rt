@@ -1,7 +1,8 @@
 // The bytes of a journal: lines, words, numbers and hex digits.
-ghost use Rattle.std.specs.Prelude.{◌≡◌, [], ◌∷◌, not, ◌-◌, ◌^◌, min, IfOk, MatchOption, ◌==◌, slice_index, position};
+ghost use Rattle.std.specs.Prelude.{◌≡◌, [], ◌∷◌, not, ◌-◌, ◌^◌, ◌≤◌, min, IfOk, MatchOption, ◌==◌, slice_index, position};
 ghost use Rattle.std.specs.List.{list_all, prefix_len};
-ghost use Rattle.journal.specs.Text.{Told, pair, paired, bytes_of_hex, blank, allowed, digit, nibble, hex, words, only, value, number, unended};
+ghost use Rattle.journal.specs.Text.{Told, pair, paired, bytes_of_hex, blank, allowed, digit, nibble, hex, value, number, unended};
+ghost use Rattle.journal.specs.Text.{words, no_words, only, two, four, five};
 
 use crate::Wrong;
 use std::alloc::{AllocError, Global};
@@ -86,24 +87,74 @@ pub(crate) fn only_word(line: &[u8]) -> Result<&[u8], Wrong>
     }
 }
 
-// The number that decimal digits say, or the greatest of the type where it is greater.
-fn value(digits: &[u8]) -> u32
-    ensures { result ≡ min (value digits.now) (2 ^ 32 - 1) }
+// Refuses a line's rest that has a word.
+pub(crate) fn no_words(line: &[u8]) -> Result<(), Wrong>
+    ensures { result ≡ no_words (words line.now) }
 {
-    digits.iter().fold(0, |n: u32, b| {
+    match split_word(line) {
+        None => Ok(()),
+        Some(_) => Err(Wrong::TooManyWords),
+    }
+}
+
+// The two, four or five words of a line's rest.
+pub(crate) fn two_words(line: &[u8]) -> Result<(&[u8], &[u8]), Wrong>
+    ensures { Told result (λ p. (p.0.now, p.1.now)) (two (words line.now)) }
+{
+    let (first, rest) = split_word(line).ok_or(Wrong::TooFewWords)?;
+    Ok((first, only_word(rest)?))
+}
+
+pub(crate) fn four_words(line: &[u8]) -> Result<(&[u8], &[u8], &[u8], &[u8]), Wrong>
+    ensures { Told result (λ p. (p.0.now, p.1.now, p.2.now, p.3.now)) (four (words line.now)) }
+{
+    let (first, rest) = split_word(line).ok_or(Wrong::TooFewWords)?;
+    let (second, rest) = split_word(rest).ok_or(Wrong::TooFewWords)?;
+    let (third, fourth) = two_words(rest)?;
+    Ok((first, second, third, fourth))
+}
+
+pub(crate) fn five_words(line: &[u8]) -> Result<(&[u8], &[u8], &[u8], &[u8], &[u8]), Wrong>
+    ensures { Told result (λ p. (p.0.now, p.1.now, p.2.now, p.3.now, p.4.now)) (five (words line.now)) }
+{
+    let (first, rest) = split_word(line).ok_or(Wrong::TooFewWords)?;
+    let (second, third, fourth, fifth) = four_words(rest)?;
+    Ok((first, second, third, fourth, fifth))
+}
+
+// The number that decimal digits say, or the greatest of the type where it is greater.
+fn value(digits: &[u8]) -> u64
+    ensures { result ≡ min (value digits.now) (2 ^ 64 - 1) }
+{
+    digits.iter().fold(0, |n: u64, b| {
         n.saturating_mul(10)
-            .saturating_add(u32::from(b.saturating_sub(b'0')))
+            .saturating_add(u64::from(b.saturating_sub(b'0')))
     })
+}
+
+// The number that a word says, up to a limit.
+pub(crate) fn number(limit: u32, word: &[u8]) -> Result<u32, Wrong>
+    ensures value { result ≡ number limit word.now }
+    ensures limited { IfOk result (λ n. n ≤ limit) }
+{
+    if word.is_empty() {
+        return Err(Wrong::MissingNumber);
+    }
+    if !all_digits(word) {
+        return Err(Wrong::NotANumber);
+    }
+    let value = value(word);
+    if value > u64::from(limit) {
+        return Err(Wrong::NumberTooLarge);
+    }
+    Ok(value as u32)
 }
 
 // The number that a word says, at most 65535.
 pub(crate) fn short_number(word: &[u8]) -> Result<u16, Wrong>
     ensures { result ≡ number 65535 word.now }
 {
-    if word.is_empty() || !all_digits(word) {
-        return Err(Wrong::NotANumber);
-    }
-    u16::try_from(value(word)).map_err(|_| Wrong::NumberTooLarge)
+    Ok(number(65535, word)? as u16)
 }
 
 // Whether a line that begins with this word is a comment.

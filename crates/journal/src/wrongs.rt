@@ -1,8 +1,9 @@
 // What is wrong with a line, in words.
 ghost use Rattle.std.specs.Prelude.{◌≡◌, Some, codes};
 ghost use Rattle.journal.specs.Spelled.{wrong_text, report, failure};
+ghost use Rattle.journal.specs.Settings.{error_at};
 
-use crate::{ParseError, Unreadable, Wrong};
+use crate::{LineError, ParseError, Unreadable, Wrong};
 use std::error::Error;
 use std::fmt;
 
@@ -13,6 +14,18 @@ impl Wrong {
         ensures wrong { result.wrong ≡ self }
     {
         Unreadable { line, wrong: self }
+    }
+}
+
+impl LineError {
+    // The same of a line with this number.
+    pub(crate) fn at(self, line: usize) -> ParseError
+        ensures { result ≡ error_at line self }
+    {
+        match self {
+            LineError::Wrong(wrong) => ParseError::Unreadable(wrong.at(line)),
+            LineError::Memory(error) => ParseError::Memory(error),
+        }
     }
 }
 
@@ -32,6 +45,12 @@ impl fmt::Display for Wrong {
             Wrong::MissingProcess => "the process must come first",
             Wrong::MissingSerial => "the serial must come straight after the process",
             Wrong::Repeated => "this setting was given before",
+            Wrong::MissingNumber => "a number is missing in a list or a ticket",
+            Wrong::NotATicket => "a ticket has no slash between its numbers",
+            Wrong::NotAKind => "the kind is neither score nor fee",
+            Wrong::NotAMode => "an abort is neither complete nor partial",
+            Wrong::NotAHost => "the host is neither ledger nor scores",
+            Wrong::LateSetting => "a setting comes after a call",
         })
     }
 }

@@ -255,12 +255,6 @@ mod tests {
         refused(
             &rt,
             heap,
-            b"process 00\nserial 7\nstart 1 - score 5\n",
-            "line 3: the first word is unknown",
-        )?;
-        refused(
-            &rt,
-            heap,
             b"Process 00\n",
             "line 1: the first word is unknown",
         )?;
@@ -317,6 +311,168 @@ mod tests {
             heap,
             b"process zz 00\x00\n",
             "line 1: a byte is neither printable ASCII nor a space nor a tab",
+        )
+    }
+
+    // The line is read after the settings, and is told so: the number of the line, its word and its event.
+    fn says(rt: &impl Abort, heap: Global, line: &str, told: &str) -> Result<(), Fail> {
+        let text = format!(in heap; "process 00\nserial 7\n{line}\n")?;
+        let journal = parse(heap, text.as_bytes())?;
+        let mut said = String::new(heap);
+        for line in &journal.lines {
+            let number = line.number;
+            let word = line.word();
+            let event = &line.event;
+            said.push_str(format!(in heap; "{number} {word}: {event:?}")?.as_str())?;
+        }
+        assert_eq!(rt; said.as_str(), told);
+        Ok(())
+    }
+
+    // The line is refused after the settings, with these words.
+    fn unsaid(rt: &impl Abort, heap: Global, line: &str, words: &str) -> Result<(), Fail> {
+        let text = format!(in heap; "process 00\nserial 7\n{line}\n")?;
+        let told = format!(in heap; "line 3: {words}")?;
+        refused(rt, heap, text.as_bytes(), told.as_str())
+    }
+
+    #[test]
+    fn readable_calls(rt: HostRuntime) -> Result<(), Fail> {
+        let heap = rt.alloc();
+        let table = [
+            (
+                "start 1 - score 5",
+                "3 start: Start { step: 1, predecessors: [], entry: Entry { kind: Score, number: Some(5) } }",
+            ),
+            (
+                "start 065535 7,0,65535 fee -2147483648",
+                "3 start: Start { step: 65535, predecessors: [7, 0, 65535], entry: Entry { kind: Fee, number: Some(-2147483648) } }",
+            ),
+            (
+                "\tstart 2 3 fee  - ",
+                "3 start: Start { step: 2, predecessors: [3], entry: Entry { kind: Fee, number: None } }",
+            ),
+            (
+                "start 2 3 score -0",
+                "3 start: Start { step: 2, predecessors: [3], entry: Entry { kind: Score, number: Some(0) } }",
+            ),
+            ("end 00012", "3 end: End { row: 12 }"),
+            ("abort complete", "3 abort: Abort { mode: Complete }"),
+            ("abort partial 4", "3 abort: Abort { mode: Partial(4) }"),
+            (
+                "undo 7/2 5",
+                "3 undo: Undo { ticket: TicketNumber { serial: 7, rollback: 2 }, row: 5 }",
+            ),
+            (
+                "finish 65535/0",
+                "3 finish: Finish { ticket: TicketNumber { serial: 65535, rollback: 0 } }",
+            ),
+            (
+                "park 7/01",
+                "3 park: Park { ticket: TicketNumber { serial: 7, rollback: 1 } }",
+            ),
+            ("resume", "3 resume: Resume"),
+            ("listing", "3 listing: Listing"),
+            ("reply 4294967295", "3 reply: Reply { place: 4294967295 }"),
+            ("shut ledger", "3 shut: Control { command: First(Off) }"),
+            ("open scores", "3 open: Control { command: Second(On) }"),
+            (
+                "memory 257 256 1000000 0 32",
+                "3 memory: Lend { sizes: Sizes { column: 257, line: 256, arrows: 1000000, restarts: 0, buffer: 32 } }",
+            ),
+            (
+                "scores 9\n# x\n\nlisting\nend 1",
+                "6 listing: Listing7 end: End { row: 1 }",
+            ),
+        ];
+        for (line, told) in table {
+            says(&rt, heap, line, told)?;
+        }
+        Ok(())
+    }
+
+    #[test]
+    fn unreadable_calls(rt: HostRuntime) -> Result<(), Fail> {
+        let heap = rt.alloc();
+        let few = "a word is missing";
+        let many = "there is a word too many";
+        let digits = "a number has a character that is no decimal digit";
+        let large = "a number is too large";
+        let missing = "a number is missing in a list or a ticket";
+        let table = [
+            ("start 1 - score", few),
+            ("start x - gold", few),
+            ("start x - score 5 6", many),
+            ("start x - gold 5", digits),
+            ("start 65536 - gold 5", large),
+            ("start 1 1,, gold 5", missing),
+            ("start 1 1,65536 gold 5", large),
+            ("start 1 -1 score 5", digits),
+            ("start 1 - gold x", "the kind is neither score nor fee"),
+            ("start 1 - score 2147483648", large),
+            ("start 1 - score -2147483649", large),
+            ("start 1 - score --5", digits),
+            ("end", few),
+            ("end -", digits),
+            ("end 1 2", many),
+            ("abort", few),
+            ("abort all 1", "an abort is neither complete nor partial"),
+            ("abort complete 1", many),
+            ("abort partial", few),
+            ("undo 7/2", few),
+            ("undo 7 x", "a ticket has no slash between its numbers"),
+            ("undo 7/ 5", missing),
+            ("undo 7/2/1 5", digits),
+            ("finish /2", missing),
+            ("park 7/65536", large),
+            ("resume 1", many),
+            ("listing 1", many),
+            ("reply 4294967296", large),
+            ("shut Ledger", "the host is neither ledger nor scores"),
+            ("open", few),
+            ("memory 1 2 3 4", few),
+            ("memory 1 2 3 4 1000001", large),
+            ("memory 1 2 3 4 5 6", many),
+            ("restart", "the first word is unknown"),
+        ];
+        for (line, words) in table {
+            unsaid(&rt, heap, line, words)?;
+        }
+        Ok(())
+    }
+
+    #[test]
+    fn calls_out_of_place(rt: HostRuntime) -> Result<(), Fail> {
+        let heap = rt.alloc();
+        refused(
+            &rt,
+            heap,
+            b"listing\nprocess 00\nserial 7\n",
+            "line 1: the process must come first",
+        )?;
+        refused(
+            &rt,
+            heap,
+            b"process 00\nlisting\nserial 7\n",
+            "line 2: the serial must come straight after the process",
+        )?;
+        refused(
+            &rt,
+            heap,
+            b"process 00\nserial 7\nlisting\nscores 1\n",
+            "line 4: a setting comes after a call",
+        )?;
+        refused(
+            &rt,
+            heap,
+            b"process 00\nserial 7\nledger 1\nshut ledger\nledger 1\n",
+            "line 5: a setting comes after a call",
+        )?;
+        refused(
+            &rt,
+            heap,
+            b"process 00\nserial 7\nlisting\nserial 7\n",
+            "line 4: this setting was given before",
         )
     }
 

@@ -4,8 +4,8 @@ use Rattle.std.specs.Slice.Iter.{split_inclusive_rest}
 use Rattle.std.proofs.lemmas.List.{length-append}
 use Rattle.std.proofs.lemmas.Fn.{always_returns_same}
 use Rattle.std.proofs.lemmas.Result.{err_from_is_err_and}
-use Rattle.journal.specs.Text.{lines}
-use Rattle.journal.specs.Settings.{and_then, read_on, sofar, contents}
+use Rattle.journal.specs.Text.{and_then, lines}
+use Rattle.journal.specs.Settings.{read_on, sofar, contents}
 use Rattle.journal.proofs.Reading.{next_line, refused}
 use Rattle.journal.proofs.settings.parse.Goals as goal
 

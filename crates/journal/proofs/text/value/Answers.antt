@@ -4,5 +4,5 @@ use Rattle.journal.proofs.text.value.Goals as goal
 
 pub returns : goal.returns
 returns c =
-    let folded : c.fold.result ≡ fold (more 4294967295) 0 c.args.digits.now = search rules in
-    folded ∙ saturated 4294967295 c.args.digits.now
+    let folded : c.fold.result ≡ fold (more 18446744073709551615) 0 c.args.digits.now = search rules in
+    folded ∙ saturated 18446744073709551615 c.args.digits.now
