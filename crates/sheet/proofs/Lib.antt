@@ -5,3 +5,6 @@ pub mod Starting
 pub mod Rolling
 pub mod Phases
 pub mod Clearing
+pub mod Puts
+pub mod Listing
+pub mod Lists

@@ -5,6 +5,7 @@ mod charts;
 mod events;
 mod memory;
 mod sheets;
+mod tables;
 mod ticket;
 
 pub use events::{Event, Sizes};

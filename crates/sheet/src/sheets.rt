@@ -8,6 +8,7 @@ use values::{Mode, Phase};
 
 mod aborts;
 mod ends;
+mod listings;
 mod phases;
 mod reads;
 mod starts;
