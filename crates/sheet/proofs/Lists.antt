@@ -1,12 +1,10 @@
 -- A listing whose checks pass. Assumes nothing.
-use Rattle.std.proofs.Common.{◌≡◌, ℕ, ◌≤◌, true, List, [], ◌∷◌, length, None, Ok, Option, refl, sym, ap, ◌∙◌, ap₂, arith}
+use Rattle.std.proofs.Common.{◌≡◌, ℕ, ◌≤◌, true, List, length, None, Ok, sym, ap, ◌∙◌, ap₂, arith}
 use Rattle.std.proofs.lemmas.Bool.Decides.{nat_tests}
-use Rattle.values.specs.Checks.{first_fault, answer, after}
-use Rattle.values.specs.declared.Fault.{Fault}
+use Rattle.values.specs.Checks.{answer, after}
 use Rattle.values.specs.declared.RowArrow.{RowArrow}
 use Rattle.process.specs.Accepted.{enough}
 use Rattle.model.specs.Chart.{Chart}
-use Rattle.model.specs.Calls.{memory_check}
 use Rattle.model.specs.Run.{over}
 use Rattle.model.specs.Sheet.{Sheet, graph_arrows}
 use Rattle.sheet.specs.Listings.{graph_check, Puts}

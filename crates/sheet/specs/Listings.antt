@@ -1,8 +1,8 @@
 -- What the parts of a listing put into its tables. Assumes nothing.
-use Rattle.std.specs.Prelude.{◌≡◌, ℕ, ◌+◌, Bool, cond, not, ◌&&◌, List, [], ◌∷◌, length, Option, nat_le, slice_set}
+use Rattle.std.specs.Prelude.{◌≡◌, ℕ, ◌+◌, Bool, cond, ◌&&◌, List, [], ◌∷◌, length, Option, slice_set}
 use Rattle.values.specs.Checks.{bad}
 use Rattle.values.specs.Numbers.{phase_number, same_phase}
-use Rattle.values.specs.declared.Cause.TheVariants.{ShortMemory, WrongPhase}
+use Rattle.values.specs.declared.Cause.TheVariants.{WrongPhase}
 use Rattle.values.specs.declared.Fault.{Fault}
 use Rattle.values.specs.declared.Layer.TheVariants.{Sheet as OfSheet}
 use Rattle.values.specs.declared.Phase.TheVariants.{Forward}
@@ -35,8 +35,3 @@ arrows_at s v = cond (in_graph s v) (arrows_from s v) []
 -- a sheet that goes forward has no graph
 abbrev pub graph_check : Sheet → Option Fault
 graph_check s = bad (same_phase s.phase Forward) WrongPhase OfSheet (phase_number s.phase)
-
--- tables of these lengths have no room for so many arrows and restart points
-abbrev pub room_check : ℕ → ℕ → ℕ → ℕ → Option Fault
-room_check arrow_room restart_room arrows restarts =
-    bad (not (nat_le arrows arrow_room && nat_le restarts restart_room)) ShortMemory OfSheet 0

@@ -1,4 +1,3 @@
-use Rattle.std.proofs.Common.{arith}
 use Rattle.sheet.proofs.Lists.{lists_all}
 use Rattle.sheet.proofs.sheets.Sheet.list_in.Goals as goal
 

@@ -1,4 +1,4 @@
-use Rattle.std.proofs.Common.{◌≡◌, ℕ, ◌+◌, ◌∙◌, subst, ap₂, arith}
+use Rattle.std.proofs.Common.{◌≡◌, ◌+◌, ◌∙◌, subst, ap₂, arith}
 use Rattle.process.specs.Accepted.{enough}
 use Rattle.graph.proofs.Scratches.{same_loans, same_loans_then}
 use Rattle.model.specs.Search.{each_below}

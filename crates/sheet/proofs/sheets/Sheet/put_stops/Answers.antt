@@ -1,4 +1,4 @@
-use Rattle.std.proofs.Common.{◌≡◌, ℕ, ◌+◌, Bool, ap, subst, arith}
+use Rattle.std.proofs.Common.{◌≡◌, ℕ, ◌+◌, Bool, subst, arith}
 use Rattle.model.specs.Rollback.{stopped}
 use Rattle.model.specs.Search.{all_below}
 use Rattle.sheet.specs.Listings.{Puts, only_if}
