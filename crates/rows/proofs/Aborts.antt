@@ -3,15 +3,16 @@ use Rattle.std.proofs.Common.{◌≡◌, ℕ, ◌≤◌, Bool, true, List, lengt
 use borrow.Author.Tests.{clash}
 use Rattle.std.specs.Result.{MatchResult}
 use Rattle.graph.specs.Column.{marked}
-use Rattle.graph.specs.Reach.{Within, Start, Reached, start, step, Explored}
+use Rattle.graph.specs.Reach.{Within, Start, start, Explored}
 use Rattle.model.specs.Chart.{Chart}
-use Rattle.model.specs.Rollback.{uncut, backward}
+use Rattle.model.specs.Rollback.{After, next, further, uncut, backward}
 use Rattle.model.specs.Sheets.{Lower}
+use Rattle.model.proofs.Reach.{sound_from}
 use Rattle.rows.specs.declared.row.Row.{Row}
 use Rattle.rows.specs.Arrows.{Drawn, forth, back, passed_preds}
 use Rattle.rows.specs.Columns.{columns, preds_of, Positive}
-use Rattle.rows.specs.Marking.{Passing, AllMarked, PartMarked}
-use Rattle.rows.proofs.Arrows.{joins_forth, joins_cut, lower_cut}
+use Rattle.rows.specs.Marking.{Passing, AllMarked, BackwardMarked, PartMarked}
+use Rattle.rows.proofs.Arrows.{Joins, joins_forth, joins_cut, lower_cut}
 use Rattle.rows.proofs.Passing.{start_passes, passing_starts}
 use Rattle.rows.proofs.Walks.{back_within, forth_within}
 
@@ -23,37 +24,43 @@ walked_ok (Err x) Done No ok d = absurd (clash ok)
 
 -- ── the marks ──
 
-reached_row : (n : ℕ) (arrow : ℕ → ℕ → Bool) (starts : List ℕ) {k : ℕ} → Reached (Drawn n arrow) (Start n starts) k → Within n k
-reached_row n arrow starts (start s) = s.0
-reached_row n arrow starts (step r a) = a.to_row
+-- a path begins at a row
+path_from : (n : ℕ) (preds : ℕ → List ℕ) → Joins n (back preds) → {u v : ℕ} → After preds u v → Within n u
+path_from n preds joins {u} {v} (next m) = (joins v u m).1
+path_from n preds joins (further p m) = path_from n preds joins p
 
-module _ (rows : List Row) (lower : Lower (preds_of rows)) (positive : Positive (preds_of rows)) (few : length rows ≤ 256) where
-  -- a walk from every number
-  pub all_marked : {before : List ℕ} (starts xs : List ℕ) → Passing (λ _. true) starts
-      → Explored (Drawn (length rows) (back (passed_preds (columns rows)))) (Start (length rows) starts) before xs
-      → AllMarked (columns rows) xs
-  all_marked starts xs all e k w = e.whole k (start (passing_starts (λ _. true) starts all (length rows) few k w refl))
-
-  -- a walk back from f, and one along the arrows from what it marks
-  pub part_marked : (c : Chart) (f : ℕ) {before : List ℕ} (xs starts ys : List ℕ)
+module _ (rows : List Row) (lower : Lower (preds_of rows)) (positive : Positive (preds_of rows)) where
+  -- a walk back from f
+  pub backward_marked : (c : Chart) (f : ℕ) {before : List ℕ} (xs : List ℕ)
       → Explored (Drawn (length rows) (back (uncut c (columns rows)))) (Start (length rows) (uncut c (columns rows) f)) before xs
-      → Passing (marked xs) starts
-      → Explored (Drawn (length rows) (forth (preds_of rows))) (Start (length rows) starts) xs ys
-      → PartMarked c (columns rows) f ys
-  part_marked c f xs starts ys first them second =
-      forth_within n (preds_of rows) (joins_forth rows lower positive) lower starts ys second (backward c (columns rows) f) is
-    where
-      n : ℕ
-      n = length rows
+      → BackwardMarked c (columns rows) f xs
+  backward_marked c f xs =
+      back_within (length rows) (uncut c (columns rows)) (joins_cut rows lower positive c) (lower_cut rows lower positive c) f xs
 
-      part : (u : ℕ) → marked xs u ≡ backward c (columns rows) f u
-      part u =
-          back_within n (uncut c (columns rows)) (joins_cut rows lower positive c) (lower_cut rows lower positive c) f xs first u
+  module _ (few : length rows ≤ 256) where
+    -- a walk from every number
+    pub all_marked : {before : List ℕ} (starts xs : List ℕ) → Passing (λ _. true) starts
+        → Explored (Drawn (length rows) (back (passed_preds (columns rows)))) (Start (length rows) starts) before xs
+        → AllMarked (columns rows) xs
+    all_marked starts xs all e k w = e.whole k (start (passing_starts (λ _. true) starts all (length rows) few k w refl))
 
-      is : (u : ℕ) → Decides (backward c (columns rows) f u) (Start (length rows) starts u)
-      is u = (
-        (λ t. let m = part u ∙ t in
-            let row = reached_row n (back (uncut c (columns rows))) (uncut c (columns rows) f) (first.sound u m) in
-            passing_starts (marked xs) starts them n few u row m),
-        (λ s. sym (part u) ∙ start_passes (marked xs) starts them n u s),
-      )
+    -- a walk along the arrows from what a walk back from f marked
+    pub part_marked : (c : Chart) (f : ℕ) (xs starts ys : List ℕ) → BackwardMarked c (columns rows) f xs → Passing (marked xs) starts
+        → Explored (Drawn (length rows) (forth (preds_of rows))) (Start (length rows) starts) xs ys
+        → PartMarked c (columns rows) f ys
+    part_marked c f xs starts ys part them e =
+        forth_within n (preds_of rows) (joins_forth rows lower positive) lower starts ys e (backward c (columns rows) f) is
+      where
+        n : ℕ
+        n = length rows
+
+        row : (u : ℕ) → backward c (columns rows) f u ≡ true → Within n u
+        row u t =
+            let cut = uncut c (columns rows) in
+            path_from n cut (joins_cut rows lower positive c) (sound_from cut u n f t)
+
+        is : (u : ℕ) → Decides (backward c (columns rows) f u) (Start n starts u)
+        is u = (
+          (λ t. passing_starts (marked xs) starts them n few u (row u t) (part u ∙ t)),
+          (λ s. sym (part u) ∙ start_passes (marked xs) starts them n u s),
+        )

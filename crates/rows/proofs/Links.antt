@@ -10,6 +10,7 @@ use Rattle.model.specs.Rollback.{After, next, further, over_passed, linked}
 use Rattle.model.specs.Rows.{in_state}
 use Rattle.model.specs.Search.{has}
 use Rattle.model.specs.Sheets.{Lower}
+use Rattle.model.proofs.Reach.{sound_from, after_lower}
 use Rattle.rows.specs.declared.row.Row.{Row}
 use Rattle.rows.specs.Arrows.{Drawn, back, passed_preds}
 use Rattle.rows.specs.Columns.{columns, preds_of, Positive}
@@ -59,6 +60,10 @@ module _ (rows : List Row) (lower : Lower (preds_of rows)) (positive : Positive 
   link_before : {u : ℕ} → After (over_passed (columns rows) v) u v → Before (passed_preds (columns rows)) (preds_of rows v) u
   link_before {u} (next m) = inl (sym (ap (has u) at_end) ∙ m)
   link_before (further {w = w} p m) = inr (w, sym (ap (has w) at_end) ∙ m, narrow (lower_over v w m) p)
+
+  -- only lower rows are linked to v
+  pub linked_lower : (u : ℕ) → linked (columns rows) u v ≡ true → u < v
+  linked_lower u t = after_lower (over_passed (columns rows) v) lower_over (sound_from (over_passed (columns rows) v) u (length rows) v t)
 
   -- ── marks ──
 

@@ -27,6 +27,10 @@ pub record Passing (p : ℕ → Bool) (xs : List ℕ) : Type 0 where
 abbrev pub AllMarked : Rows → List ℕ → Type 0
 AllMarked r xs = (k : ℕ) → Within r.count k → marked xs k ≡ true
 
+-- the backward part of f is marked
+abbrev pub BackwardMarked : Chart → Rows → ℕ → List ℕ → Type 0
+BackwardMarked c r f xs = (u : ℕ) → marked xs u ≡ backward c r f u
+
 -- the backward part of f is marked, with all that is after it
 abbrev pub PartMarked : Chart → Rows → ℕ → List ℕ → Type 0
 PartMarked c r f xs = (k : ℕ) → marked xs k ≡ (backward c r f k || after r (backward c r f) k)

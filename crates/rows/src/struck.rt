@@ -3,7 +3,7 @@ ghost use Rattle.std.specs.Prelude.{◌≡◌, cond};
 ghost use Rattle.graph.specs.Column.{marked};
 ghost use Rattle.graph.specs.Held.{held};
 ghost use Rattle.graph.specs.Scratch.{roomy_in};
-ghost use Rattle.rows.specs.Marking.{Walked, Passing, AllMarked, PartMarked, StruckMarked};
+ghost use Rattle.rows.specs.Marking.{Walked, Passing, AllMarked, BackwardMarked, PartMarked, StruckMarked};
 ghost use Rattle.rows.specs.Steps.{steps_only};
 ghost use Rattle.rows.specs.Tables.{rows_of};
 
@@ -46,14 +46,23 @@ impl RowTable {
         self.walk(BackOverPassed, &all, scratch)
     }
 
+    /// Marks the backward part of row `f`.
+    pub fn mark_backward(&self, steps: &[Step], f: u16, scratch: &mut Scratch) -> Result<(), NoRoom>
+        ensures { Walked result (roomy_in (rows_of self.now).count scratch.old)
+            (λ _. BackwardMarked (steps_only steps.now) (rows_of self.now) f (held scratch.new.marks.now))
+            scratch.old scratch.new }
+    {
+        let starts = self.uncut(steps, f);
+        self.walk(BackToSavepoints { steps }, starts.as_slice(), scratch)
+    }
+
     /// Marks the backward part of row `f`, and all rows after it.
     fn mark_part(&self, steps: &[Step], f: u16, scratch: &mut Scratch) -> Result<(), NoRoom>
         ensures { Walked result (roomy_in (rows_of self.now).count scratch.old)
             (λ _. PartMarked (steps_only steps.now) (rows_of self.now) f (held scratch.new.marks.now))
             scratch.old scratch.new }
     {
-        let starts = self.uncut(steps, f);
-        self.walk(BackToSavepoints { steps }, starts.as_slice(), scratch)?;
+        self.mark_backward(steps, f, scratch)?;
         let part = marked_numbers(scratch.marks);
         self.walk(Forth, &part, scratch)
     }

@@ -7,3 +7,6 @@ pub mod Phases
 pub mod Clearing
 pub mod Running
 pub mod Going
+pub mod Puts
+pub mod Listing
+pub mod Lists

@@ -9,3 +9,4 @@ pub mod Lent
 pub mod Happenings
 pub mod Runs
 pub mod Summaries
+pub mod Listings

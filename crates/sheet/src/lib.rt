@@ -6,6 +6,7 @@ mod events;
 mod memory;
 mod replay;
 mod sheets;
+mod tables;
 mod ticket;
 
 pub use events::{Event, Sizes, Taken};

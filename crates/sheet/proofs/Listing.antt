@@ -1,0 +1,48 @@
+-- The parts of a listing: the arrows from one row, and how many there can be. Assumes nothing.
+use Rattle.std.proofs.Common.{◌≡◌, ℕ, ◌+◌, ◌*◌, ◌≤◌, Bool, true, false, cond, List, [], length, vec_items, ap, ◌∙◌, inl, inr, arith}
+use Rattle.std.proofs.lemmas.Bool.{cases_Bool, and_right}
+use Rattle.values.specs.declared.RowArrow.{RowArrow}
+use Rattle.model.specs.Rollback.{linked}
+use Rattle.model.specs.Search.{each_below}
+use Rattle.model.specs.Sheet.{in_graph, arrows_from}
+use Rattle.rows.proofs.Links.{linked_lower}
+use Rattle.sheet.specs.declared.sheets.Sheet.{Sheet as Code}
+use Rattle.sheet.specs.Listings.{only_if, ends, arrows_at}
+use Rattle.sheet.specs.SheetOf.{sheet_of}
+use Rattle.sheet.proofs.Puts.{length_each, length_only_if, each_lower, map_each}
+
+module _ (x : Code) where
+  -- the arrow from v to u, if there is one
+  abbrev pub arrow_to : ℕ → ℕ → List RowArrow
+  arrow_to v u = only_if (ends (sheet_of x) v u) (record { from = v; to = u })
+
+  -- only lower rows are linked to a row
+  pub arrows_lower : (v : ℕ) → v ≤ (sheet_of x).rows.count → arrows_from (sheet_of x) v ≡ each_below v (arrow_to v)
+  arrows_lower v row =
+      let r = (sheet_of x).rows in
+      map_each _ (ends (sheet_of x) v) (r.count + 1)
+      ∙ each_lower (arrow_to v) v (r.count + 1) (omega arith) (λ u above.
+      elim (cases_Bool (linked r u v)) [
+        | inl t ↦ let low = linked_lower (vec_items x.table.rows) x.table.lower x.table.positive v u t in absurd (omega arith)
+        | inr f ↦ ap (λ b. only_if b (record { from = v; to = u })) (and_right (in_graph (sheet_of x) u) (linked r u v) f)
+      ])
+
+  -- and they are few
+  pub few_lower : (v u : ℕ) → length (each_below u (arrow_to v)) ≤ u
+  few_lower v u = omega (arith, length_each u 1 (arrow_to v) (λ k. length_only_if (ends (sheet_of x) v k) _))
+
+  few_from : (v : ℕ) → length (arrows_from (sheet_of x) v) ≤ 257
+  few_from v =
+      let n = (sheet_of x).rows.count + 1 in
+      omega (arith, x.table.few, x.table.rows.ok.0, ap (length {A = RowArrow}) (map_each (λ u. record { from = v; to = u }) (ends (sheet_of x) v) n), few_lower v n)
+
+  few_at : (v : ℕ) → length (arrows_at (sheet_of x) v) ≤ 257
+  few_at v = go (in_graph (sheet_of x) v)
+    where
+      go : (b : Bool) → length (cond b (arrows_from (sheet_of x) v) []) ≤ 257
+      go true = few_from v
+      go false = omega arith
+
+  -- so the place after the arrows from the rows below another is small
+  pub few_below : (v : ℕ) → length (each_below v (arrows_at (sheet_of x))) ≤ v * 257
+  few_below v = length_each v 257 (arrows_at (sheet_of x)) few_at
