@@ -5,3 +5,4 @@ pub mod Starting
 pub mod Rolling
 pub mod Phases
 pub mod Clearing
+pub mod Setting

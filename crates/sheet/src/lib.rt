@@ -3,6 +3,7 @@
 
 mod charts;
 mod events;
+mod fields;
 mod memory;
 mod sheets;
 mod ticket;
