@@ -1,10 +1,17 @@
 -- A field that is set in place, in numbers, in bytes and among the fields of a reply. Assumes nothing.
-use Rattle.std.proofs.Common.{◌≡◌, ℕ, zero, suc, ◌+◌, ◌-◌, ◌*◌, ◌/◌, ◌%◌, ◌^◌, ◌<◌, ◌≤◌, List, [], ◌∷◌, ◌++◌, length, get_or, take, drop, set, replicate, sym, refl, ap, ◌∙◌, subst, ap₂, mul_assoc, mul_comm, add-one, add_assoc, add_comm, arith}
+use Rattle.std.proofs.Common.{◌≡◌, ℕ, zero, suc, ◌+◌, ◌-◌, ◌*◌, ◌/◌, ◌%◌, ◌^◌, ◌<◌, ◌≤◌, List, [], ◌∷◌, ◌++◌, length, get_or, take, drop, set, replicate, sym, refl, ap, ◌∙◌, subst, ap₂, mul_assoc, mul_comm, add-one, append_assoc, add_assoc, add_comm, arith}
 use Rattle.std.proofs.lemmas.Nat.{pow-add, pow_pos, shr_split, shr-shr, shr_high, mod_low, mod_below, shr_below, shl_whole, one_shl, mul-add-lt, field_of}
 use native.Mathlib.Nat.{mul-add-mod_self_right}
 use Rattle.std.proofs.lemmas.List.{set_at, length-take-le, drop-set-lt, set-get_or, get_or-drop, length-replicate, replicate-append-replicate}
 use Rattle.process.specs.Bits.{total, pack, field, unpack, Fit}
-use Rattle.sheet.specs.Setting.{number_of, Sets}
+use Rattle.sheet.specs.Setting.{number_of, Sets, SetsStep, fields_with}
+use Rattle.values.specs.Numbers.{phase_number}
+use Rattle.values.specs.declared.Phase.{Phase}
+use Rattle.model.specs.Chart.{Chart}
+use Rattle.model.specs.Sheet.{Sheet}
+use Rattle.model.specs.Replies.{fields_of}
+use Rattle.model.specs.Report.{reply_widths, reply_bytes}
+use Rattle.process.proofs.Packing.{unpack_high}
 
 -- ── numbers ──
 
@@ -158,3 +165,88 @@ sets_bits i r low width v place word word' xs x y size long small narrow is had 
       bits = rw (is, add-one) (bits_in_bytes 32 i r low width v xs x y size long small narrow e');
       rest = drop-set-lt 32 (set xs i x) (i + 1) y (omega arith) ∙ drop-set-lt 32 xs i x (omega arith);
     }
+
+-- ── the fields of a reply ──
+
+length-unpack : (ws : List ℕ) (n : ℕ) → length (unpack ws n) ≡ length ws
+length-unpack [] n = refl
+length-unpack (w ∷ ws) n = ap suc (length-unpack ws n)
+
+unpack-append : (ws us : List ℕ) (n : ℕ) → unpack (ws ++ us) n ≡ unpack ws (n / 2 ^ total us) ++ unpack us n
+unpack-append [] us n = refl
+unpack-append (w ∷ ws) us n =
+    let low : n / 2 ^ total (ws ++ us) ≡ n / 2 ^ total us / 2 ^ total ws =
+    ap (λ k. n / 2 ^ k) (total-append ws us ∙ add_comm (total ws) (total us)) ∙ sym (shr-shr n (total us) (total ws)) in
+    ap₂ (λ (x : ℕ) (xs : List ℕ). x ∷ xs) (ap (λ k. k % 2 ^ w) low) (unpack-append ws us n)
+
+-- a field set in the number is set in the list
+fields_put : (ws us : List ℕ) (width n m v : ℕ) → v < 2 ^ width
+    → m + field (total us) width n * 2 ^ total us ≡ n + v * 2 ^ total us
+    → unpack (ws ++ width ∷ us) m ≡ set (unpack (ws ++ width ∷ us) n) (length ws) v
+fields_put ws us width n m v small e =
+    let low = total us in
+    let a = above low width n in
+    let b = n % 2 ^ low in
+    let below = mod_below n (2 ^ low) (pow_pos low) in
+    let is = put low width n m v e in
+    let div : m / 2 ^ low ≡ a * 2 ^ width + v = ap (λ k. k / 2 ^ low) is ∙ shr_high (a * 2 ^ width + v) low b below in
+    let high : m / 2 ^ (width + low) ≡ n / 2 ^ (width + low) =
+    ap (λ k. m / 2 ^ k) (add_comm width low) ∙ sym (shr-shr m low width) ∙ ap (λ k. k / 2 ^ width) div ∙ shr_high a width v small
+    ∙ shr-shr n low width ∙ ap (λ k. n / 2 ^ k) (add_comm low width) in
+    let mid : field low width m ≡ v = ap (λ k. k % 2 ^ width) div ∙ mod_low a width v small in
+    let rest : unpack us m ≡ unpack us n =
+    ap (unpack us) is ∙ unpack_high us (a * 2 ^ width + v) b ∙ sym (unpack_high us (a * 2 ^ width + field low width n) b)
+    ∙ ap (unpack us) (cut low width n) in
+    unpack-append ws (width ∷ us) m
+    ∙ ap₂ (λ (xs ys : List ℕ). xs ++ ys) (ap (unpack ws) high) (ap₂ (λ (x : ℕ) (xs : List ℕ). x ∷ xs) mid rest)
+    ∙ sym (ap (λ xs. set xs (length ws) v) (unpack-append ws (width ∷ us) n)
+    ∙ set_at (unpack ws (n / 2 ^ (width + low))) (field low width n) (unpack us n) v (length ws) (length-unpack ws (n / 2 ^ (width + low))))
+
+step_widths : (j r : ℕ) → 64 ≡ j + suc r → reply_widths ≡ (8 ∷ 2 ∷ 6 ∷ 16 ∷ replicate j 3) ++ 3 ∷ (replicate r 3 ++ 32 ∷ [])
+step_widths j r e =
+    ap (λ ws. 8 ∷ 2 ∷ 6 ∷ 16 ∷ (ws ++ 32 ∷ [])) (ap (λ n. replicate n 3) e ∙ sym (replicate-append-replicate j (suc r) 3))
+    ∙ ap (λ ws. 8 ∷ 2 ∷ 6 ∷ 16 ∷ ws) (append_assoc (replicate j 3) (3 ∷ replicate r 3) (32 ∷ []))
+
+-- a field of a reply, once its bits are set
+sets_one : (ws us : List ℕ) (width v : ℕ) (before after : List ℕ) → v < 2 ^ width → reply_widths ≡ ws ++ width ∷ us
+    → Sets (total us) width v before after → fields_of after ≡ set (fields_of before) (length ws) v
+unfolding number_of
+sets_one ws us width v before after small e s =
+    ap (λ all. unpack all (pack reply_bytes after)) e
+    ∙ fields_put ws us width (pack reply_bytes before) (pack reply_bytes after) v small s.bits
+    ∙ ap (λ all. set (unpack all (pack reply_bytes before)) (length ws) v) (sym e)
+
+pub sets_step : (k v : ℕ) (before after : List ℕ) → 1 ≤ k → k ≤ 64 → v < 8 → Sets (256 - (29 + 3 * k + 3)) 3 v before after
+    → SetsStep k v before after
+sets_step k v before after low high small s =
+    let r = 64 - k in
+    let t : 256 - (29 + 3 * k + 3) ≡ total (replicate r 3 ++ 32 ∷ []) =
+    (let sum = total-append (replicate r 3) (32 ∷ []) in let steps = total_same r 3 in omega arith) in
+    let place : length (8 ∷ 2 ∷ 6 ∷ 16 ∷ replicate {A = ℕ} (k - 1) 3) ≡ k + 3 = omega (arith, length-replicate {A = ℕ} (k - 1) 3) in
+    record {
+      fields = sets_one (8 ∷ 2 ∷ 6 ∷ 16 ∷ replicate (k - 1) 3) (replicate r 3 ++ 32 ∷ []) 3 v before after small
+          (step_widths (k - 1) r (omega arith)) (subst (λ low. Sets low 3 v before after) t s)
+          ∙ ap (λ i. set (fields_of before) i v) place;
+      rest = s.rest;
+    }
+
+phase_small : (p : Phase) → phase_number p < 4
+phase_small p = grind arith
+
+-- the fields before those of the steps, set over zeros
+pub sets_front : (c : Chart) (s : Sheet) (before zeros b d e f : List ℕ) → zeros ≡ replicate (length (take 32 before)) 0
+    → 32 ≤ length before → length c.0 ≤ 64 → s.rollback < 2 ^ 16 → Sets 248 8 1 (zeros ++ drop 32 before) b → Sets 246 2 (phase_number s.phase) b d → Sets 240 6 (length c.0 - 1) d e
+    → Sets 224 16 s.rollback e f → (fields_of f ≡ fields_with c s (λ _. 0)) × (drop 32 f ≡ drop 32 before)
+unfolding fields_with
+sets_front c s before zeros b d e f are long few small form phase steps rollback =
+    let w = replicate 64 3 ++ 32 ∷ [] in
+    let is : zeros ≡ replicate 32 0 = are ∙ ap (λ n. replicate n 0) (length-take-le 32 before long) in
+    let start : zeros ++ drop 32 before ≡ replicate 32 0 ++ drop 32 before = ap (λ xs. xs ++ drop 32 before) is in
+    let blank : fields_of (zeros ++ drop 32 before) ≡ 0 ∷ 0 ∷ 0 ∷ 0 ∷ replicate 65 0 = ap fields_of start in
+    let one = sets_one [] (2 ∷ 6 ∷ 16 ∷ w) 8 1 (zeros ++ drop 32 before) b (omega arith) refl form in
+    let two = sets_one (8 ∷ []) (6 ∷ 16 ∷ w) 2 (phase_number s.phase) b d (phase_small s.phase) refl phase in
+    let three = sets_one (8 ∷ 2 ∷ []) (16 ∷ w) 6 (length c.0 - 1) d e (omega arith) refl steps in
+    let four = sets_one (8 ∷ 2 ∷ 6 ∷ []) w 16 s.rollback e f small refl rollback in
+    (four ∙ ap (λ xs. set xs 3 s.rollback) (three ∙ ap (λ xs. set xs 2 (length c.0 - 1)) (two
+    ∙ ap (λ xs. set xs 1 (phase_number s.phase)) (one ∙ ap (λ xs. set xs 0 1) blank))),
+    rollback.rest ∙ steps.rest ∙ phase.rest ∙ form.rest ∙ ap (drop 32) start)

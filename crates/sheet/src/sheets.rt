@@ -10,6 +10,7 @@ mod aborts;
 mod ends;
 mod phases;
 mod reads;
+mod replies;
 mod starts;
 mod undos;
 
