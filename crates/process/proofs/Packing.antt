@@ -25,7 +25,7 @@ pack_below (w ∷ ws) (v ∷ vs) f =
     omega (arith, mul_comm (2 ^ w) (2 ^ total ws))
 
 -- bits above the fields do not matter
-unpack_high : (ws : List ℕ) (a n : ℕ) → unpack ws (a * 2 ^ total ws + n) ≡ unpack ws n
+pub unpack_high : (ws : List ℕ) (a n : ℕ) → unpack ws (a * 2 ^ total ws + n) ≡ unpack ws n
 unpack_high [] a n = refl
 unpack_high (w ∷ ws) a n =
     let low = 2 ^ total ws in

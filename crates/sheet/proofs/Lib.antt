@@ -6,3 +6,4 @@ pub mod Rolling
 pub mod Phases
 pub mod Clearing
 pub mod Setting
+pub mod Showing
