@@ -1,15 +1,26 @@
 -- What a reply shows of each step, written one after another. Assumes nothing.
-use Rattle.std.proofs.Common.{◌≡◌, ℕ, zero, suc, ◌+◌, ◌-◌, ◌<◌, ◌≤◌, ◌≢◌, true, false, cond, ◌&&◌, eqb, ltb, List, [], ◌∷◌, ◌++◌, length, set, sym, refl, ap, ◌∙◌, ap₂, inl, inr, add-one, arith}
+use Rattle.std.proofs.Common.{◌≡◌, ℕ, zero, suc, ◌+◌, ◌-◌, ◌<◌, ◌≤◌, ◌≢◌, ◌*◌, ◌^◌, true, false, cond, ◌&&◌, eqb, ltb, List, [], ◌∷◌, ◌++◌, length, get_or, take, drop, replicate, set, Some, None, Ok, Err, subst, sym, refl, ap, ◌∙◌, ap₂, inl, inr, add-one, arith}
 use Rattle.std.proofs.lemmas.Bool.{cases_eq}
 use Rattle.std.proofs.lemmas.Bool.Decides.{nat_tests}
-use Rattle.std.proofs.lemmas.List.{length_push, set_at, set-append_left}
+use Rattle.std.proofs.lemmas.List.{length_push, set_at, set-append_left, take-append-drop, drop_all, drop-drop, take_rest, length-drop, append-nil}
+use Rattle.process.specs.Bits.{total, pack, unpack, Fit}
+use Rattle.process.proofs.Packing.{repacked}
+use Rattle.model.specs.Report.{shown, reply_widths, reply_bytes, reply_of}
+use Rattle.model.specs.Replies.{fields_of}
+use Rattle.model.specs.Run.{over, written_at}
 use Rattle.values.specs.Numbers.{phase_number, row_state_number}
 use Rattle.model.specs.Chart.{Chart, step_at}
 use Rattle.model.specs.Search.{each_below}
 use Rattle.model.specs.Sheet.{Sheet}
 use Rattle.sheet.specs.declared.sheets.Sheet.{Sheet as Code}
 use Rattle.sheet.specs.SheetOf.{sheet_of, chart_of}
-use Rattle.sheet.specs.Setting.{SetsStep, Shows, fields_with, shown_below}
+use Rattle.sheet.specs.Setting.{SetsStep, Shows, StandsFirst, fields_with, shown_below}
+use Rattle.sheet.specs.Reports.{Replies}
+use Rattle.values.specs.Checks.{answer, after}
+use Rattle.values.specs.declared.Cause.TheVariants.{ShortMemory}
+use Rattle.values.specs.declared.Fault.{Fault}
+use Rattle.values.specs.declared.Layer.TheVariants.{Sheet as OfSheet}
+use Rattle.model.specs.Calls.{reply_fault}
 
 -- ── a value for each number below n ──
 
@@ -98,3 +109,60 @@ pub row_hidden : (x : Code) (n k : ℕ) (bytes : List ℕ) → k ≡ (sheet_of x
 row_hidden x n k bytes of hides e =
     e ∙ fields_same (chart_of x) (sheet_of x) (shown_below x n) (shown_below x (n + 1))
     (λ j l h. rw add-one (grind (arith, nat_tests)))
+
+-- all rows are written
+pub rows_shown : (x : Code) (n : ℕ) (bytes : List ℕ) → n ≡ (sheet_of x).rows.count + 1 → Shows x (shown_below x n) bytes
+    → Shows x (shown (chart_of x) (sheet_of x)) bytes
+rows_shown x n bytes all = subst (λ n. Shows x (shown_below x n) bytes) all
+
+-- ── the whole reply ──
+
+fit_bytes : (n : ℕ) (xs : List ℕ) → n ≤ length xs → ((i : ℕ) → get_or xs i 0 < 256) → Fit (replicate n 8) (take n xs)
+fit_bytes zero xs l h = tt
+fit_bytes (suc n) [] l h = absurd (omega arith)
+fit_bytes (suc n) (x ∷ xs) l h = (h 0, fit_bytes n xs (omega arith) (λ i. h (suc i)))
+
+pack_take : (ws xs : List ℕ) → pack ws (take (length ws) xs) ≡ pack ws xs
+pack_take [] xs = refl
+pack_take (w ∷ ws) [] = refl
+pack_take (w ∷ ws) (x ∷ xs) = ap (λ k. x * 2 ^ total ws + k) (pack_take ws xs)
+
+-- 32 bytes that have the fields of a reply are that reply
+pub stands_first : (c : Chart) (s : Sheet) (before after : List ℕ) → 32 ≤ length after → ((i : ℕ) → get_or after i 0 < 256)
+    → fields_of after ≡ fields_with c s (shown c s) → drop 32 after ≡ drop 32 before → StandsFirst c s before after
+unfolding fields_with
+stands_first c s before after long small fields rest =
+    let front : take 32 after ≡ reply_of c s =
+    sym (repacked reply_widths reply_bytes (take 32 after) refl (fit_bytes 32 after long small))
+    ∙ ap (λ n. unpack reply_bytes (pack reply_widths (unpack reply_widths n))) (pack_take reply_bytes after)
+    ∙ ap (λ vs. unpack reply_bytes (pack reply_widths vs)) fields in
+    record { bytes = sym (take-append-drop 32 after) ∙ ap₂ (λ (xs ys : List ℕ). xs ++ ys) front rest }
+
+-- ── at a place of a buffer ──
+
+-- too few bytes lie from the place on
+pub too_short : (c : Chart) (s : Sheet) (place : ℕ) (buffer : List ℕ) (f : Fault) → length buffer < place + 32
+    → f ≡ record { cause = ShortMemory; layer = OfSheet; place = 0 } → Replies c s place buffer (Err f) buffer
+too_short c s place buffer f short is =
+    let e : reply_fault place (length buffer) ≡ Some f = grind (arith, nat_tests) in
+    record {
+      answers = sym (ap (λ o. answer o tt) e);
+      bytes = sym (ap (λ o. after o buffer (written_at place (reply_of c s) buffer)) e);
+    }
+
+-- the reply stands first in what lies from the place on
+pub written : (c : Chart) (s : Sheet) (place : ℕ) (buffer part : List ℕ) → place + 32 ≤ length buffer
+    → StandsFirst c s (take (length buffer - place) (drop place buffer)) part
+    → Replies c s place buffer (Ok tt) (take place buffer ++ (part ++ drop (length buffer - place) (drop place buffer)))
+written c s place buffer part long first =
+    let xs = reply_of c s in
+    let e : reply_fault place (length buffer) ≡ None = grind (arith, nat_tests) in
+    let none : part ++ drop (length buffer - place) (drop place buffer) ≡ part =
+    ap (λ ys. part ++ ys) (drop_all (length buffer - place) (drop place buffer) (omega (arith, length-drop place buffer)))
+    ∙ append-nil part in
+    record {
+      answers = sym (ap (λ o. answer o tt) e);
+      bytes = ap (λ ys. take place buffer ++ ys) (none ∙ first.bytes ∙ ap (over xs) (take_rest buffer place)
+          ∙ ap (λ ys. xs ++ ys) (drop-drop (length xs) place buffer))
+          ∙ sym (ap (λ o. after o buffer (written_at place xs buffer)) e);
+    }

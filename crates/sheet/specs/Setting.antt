@@ -5,8 +5,9 @@ use Rattle.process.specs.Bits.{pack, field}
 use Rattle.model.specs.Chart.{Chart, step_at}
 use Rattle.model.specs.Search.{each_below}
 use Rattle.model.specs.Sheet.{Sheet}
-use Rattle.model.specs.Report.{highest_below, reply_bytes}
+use Rattle.model.specs.Report.{highest_below, reply_bytes, reply_of}
 use Rattle.model.specs.Replies.{fields_of}
+use Rattle.model.specs.Run.{over}
 use Rattle.sheet.specs.declared.sheets.Sheet.{Sheet as Code}
 use Rattle.sheet.specs.SheetOf.{sheet_of, chart_of}
 
@@ -43,3 +44,7 @@ Shows x shows bytes = fields_of bytes ≡ fields_with (chart_of x) (sheet_of x) 
 pub record ShowsNow (x : Code) (shows : ℕ → ℕ) (before after : List ℕ) : Type 0 where
   pub reply : Shows x shows after
   pub rest : drop 32 after ≡ drop 32 before
+
+-- a reply stands at the beginning of some bytes; the other bytes are kept
+pub record StandsFirst (c : Chart) (s : Sheet) (before after : List ℕ) : Type 0 where
+  pub bytes : after ≡ over (reply_of c s) before

@@ -1,10 +1,9 @@
 // The reply: what a sheet shows to those outside.
 ghost use Rattle.std.specs.Prelude.{◌≡◌, ◌+◌, ◌≤◌, length};
 ghost use Rattle.model.specs.Chart.{step_at};
-ghost use Rattle.model.specs.Report.{shown, reply_of};
-ghost use Rattle.model.specs.Run.{over};
+ghost use Rattle.model.specs.Report.{shown};
 ghost use Rattle.sheet.specs.Reports.{Replies};
-ghost use Rattle.sheet.specs.Setting.{Shows, ShowsNow, shown_below};
+ghost use Rattle.sheet.specs.Setting.{Shows, ShowsNow, StandsFirst, shown_below};
 ghost use Rattle.sheet.specs.SheetOf.{sheet_of, chart_of};
 
 use super::Sheet;
@@ -77,7 +76,7 @@ impl Sheet {
     // Writes a reply at the beginning of these bytes.
     fn write_reply(&self, bytes: &mut [u8])
         requires { 32 ≤ length bytes.old }
-        ensures { bytes.new ≡ over (reply_of (chart_of self.now) (sheet_of self.now)) bytes.old }
+        ensures { StandsFirst (chart_of self.now) (sheet_of self.now) bytes.old bytes.new }
     {
         self.write_front(bytes);
         self.write_private(bytes);
