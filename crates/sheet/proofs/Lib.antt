@@ -5,5 +5,5 @@ pub mod Starting
 pub mod Rolling
 pub mod Phases
 pub mod Clearing
-pub mod Setting
-pub mod Showing
+pub mod Fields
+pub mod Shown

@@ -5,4 +5,4 @@ pub mod Candidates
 pub mod Calls
 pub mod Tickets
 pub mod Reports
-pub mod Setting
+pub mod Fields

@@ -1,9 +1,9 @@
 //! The sheet of a competition: the calls that write it, and events as values.
 #![tactic(auto)]
 
+mod bits;
 mod charts;
 mod events;
-mod fields;
 mod memory;
 mod sheets;
 mod ticket;

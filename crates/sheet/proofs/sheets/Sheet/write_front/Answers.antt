@@ -1,6 +1,6 @@
 -- Zeros, and four fields.
 use Rattle.std.proofs.Common.{arith}
-use Rattle.sheet.proofs.Setting.{sets_front}
+use Rattle.sheet.proofs.Fields.{sets_front}
 use Rattle.sheet.specs.SheetOf.{sheet_of, chart_of}
 use Rattle.sheet.proofs.sheets.Sheet.write_front.Goals as goal
 

@@ -1,6 +1,6 @@
 -- Each step in turn.
 use Rattle.std.proofs.Common.{refl, arith, ◌∙◌}
-use Rattle.sheet.proofs.Showing.{none_hidden, all_hidden, one_hidden, one_open}
+use Rattle.sheet.proofs.Shown.{none_hidden, all_hidden, one_hidden, one_open}
 use Rattle.sheet.proofs.sheets.Sheet.write_private.Goals as goal
 use Rattle.sheet.proofs.sheets.Sheet.write_private.Goals.{then-is_private, else-is_private}
 

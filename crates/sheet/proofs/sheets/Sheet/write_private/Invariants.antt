@@ -1,5 +1,5 @@
-use Rattle.sheet.specs.Setting.{ShowsNow}
-use Rattle.sheet.proofs.Showing.{hidden_below}
+use Rattle.sheet.specs.Fields.{ShowsNow}
+use Rattle.sheet.proofs.Shown.{hidden_below}
 use Rattle.sheet.proofs.sheets.Sheet.write_private.Given as goal
 
 abbrev pub invariant-loop-step : goal.invariant-loop-step

@@ -1,5 +1,5 @@
 use Rattle.std.proofs.Common.{◌∙◌, rules, arith}
-use Rattle.sheet.proofs.Showing.{stands_first}
+use Rattle.sheet.proofs.Shown.{stands_first}
 use Rattle.sheet.specs.SheetOf.{sheet_of, chart_of}
 use Rattle.sheet.proofs.sheets.Sheet.write_reply.Goals as goal
 

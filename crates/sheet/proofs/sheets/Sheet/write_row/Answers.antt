@@ -1,7 +1,7 @@
 -- The row's state where its step shows it.
 use Rattle.std.proofs.Common.{refl, ap, ◌∙◌, rules, tests}
 use Rattle.values.specs.Numbers.{row_state_number}
-use Rattle.sheet.proofs.Showing.{row_shown, row_hidden}
+use Rattle.sheet.proofs.Shown.{row_shown, row_hidden}
 use Rattle.sheet.proofs.sheets.Sheet.write_row.Goals as goal
 use Rattle.sheet.proofs.sheets.Sheet.write_row.Goals.{else-contains-via-then-contains+else-not-is_private, else-contains-via-else-contains}
 

@@ -1,5 +1,5 @@
 use Rattle.std.proofs.Common.{arith}
-use Rattle.sheet.proofs.Showing.{rows_shown}
+use Rattle.sheet.proofs.Shown.{rows_shown}
 use Rattle.sheet.proofs.sheets.Sheet.write_rows.Goals as goal
 
 pub returns : goal.returns

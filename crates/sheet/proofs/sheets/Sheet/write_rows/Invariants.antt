@@ -1,4 +1,4 @@
-use Rattle.sheet.specs.Setting.{ShowsNow, shown_below}
+use Rattle.sheet.specs.Fields.{ShowsNow, shown_below}
 use Rattle.sheet.proofs.sheets.Sheet.write_rows.Given as goal
 
 abbrev pub invariant-loop-row : goal.invariant-loop-row

@@ -5,16 +5,16 @@ use Rattle.std.proofs.lemmas.Bool.Decides.{nat_tests}
 use Rattle.std.proofs.lemmas.List.{length_push, set_at, set-append_left, take-append-drop, drop_all, drop-drop, take_rest, length-drop, append-nil}
 use Rattle.process.specs.Bits.{total, pack, unpack, Fit}
 use Rattle.process.proofs.Packing.{repacked}
+use Rattle.model.proofs.Replying.{column, length_column}
 use Rattle.model.specs.Report.{shown, reply_widths, reply_bytes, reply_of}
 use Rattle.model.specs.Replies.{fields_of}
 use Rattle.model.specs.Run.{over, written_at}
 use Rattle.values.specs.Numbers.{phase_number, row_state_number}
 use Rattle.model.specs.Chart.{Chart, step_at}
-use Rattle.model.specs.Search.{each_below}
 use Rattle.model.specs.Sheet.{Sheet}
 use Rattle.sheet.specs.declared.sheets.Sheet.{Sheet as Code}
 use Rattle.sheet.specs.SheetOf.{sheet_of, chart_of}
-use Rattle.sheet.specs.Setting.{SetsStep, Shows, StandsFirst, fields_with, shown_below}
+use Rattle.sheet.specs.Fields.{SetsStep, Shows, StandsFirst, fields_with, shown_below}
 use Rattle.sheet.specs.Reports.{Replies}
 use Rattle.values.specs.Checks.{answer, after}
 use Rattle.values.specs.declared.Cause.TheVariants.{ShortMemory}
@@ -23,13 +23,6 @@ use Rattle.values.specs.declared.Layer.TheVariants.{Sheet as OfSheet}
 use Rattle.model.specs.Calls.{reply_fault}
 
 -- ── a value for each number below n ──
-
-abbrev column : ℕ → (ℕ → ℕ) → List ℕ
-column n f = each_below n (λ i. f i ∷ [])
-
-length_column : (n : ℕ) (f : ℕ → ℕ) → length (column n f) ≡ n
-length_column zero f = refl
-length_column (suc n) f = let l = length_column n f in length_push (column n f) (f n) ∙ omega arith
 
 column_same : (n : ℕ) (f g : ℕ → ℕ) → ((i : ℕ) → i < n → f i ≡ g i) → column n f ≡ column n g
 column_same zero f g h = refl
@@ -77,9 +70,9 @@ hidden_below x n k = cond (ltb k n && (step_at (chart_of x) k).private) 7 0
 pub none_hidden : (x : Code) (bytes : List ℕ) → Shows x (λ _. 0) bytes → Shows x (hidden_below x 1) bytes
 none_hidden x bytes e = e ∙ fields_same (chart_of x) (sheet_of x) (λ _. 0) (hidden_below x 1) (λ k l h. grind (arith, nat_tests))
 
-pub all_hidden : (x : Code) (n : ℕ) (bytes : List ℕ) → 64 < n → Shows x (hidden_below x n) bytes → Shows x (shown_below x 0) bytes
+pub all_hidden : (x : Code) (n : ℕ) (bytes : List ℕ) → 64 < n → Shows x (hidden_below x n) bytes → Shows x (shown_below x 1) bytes
 all_hidden x n bytes end e =
-    e ∙ fields_same (chart_of x) (sheet_of x) (hidden_below x n) (shown_below x 0) (λ k l h. grind (arith, nat_tests))
+    e ∙ fields_same (chart_of x) (sheet_of x) (hidden_below x n) (shown_below x 1) (λ k l h. grind (arith, nat_tests))
 
 pub one_hidden : (x : Code) (n : ℕ) (before after : List ℕ) → 1 ≤ n → n ≤ 64 → true ≡ (step_at (chart_of x) n).private
     → Shows x (hidden_below x n) before → SetsStep n 7 before after → Shows x (hidden_below x (n + 1)) after

@@ -1,7 +1,7 @@
 -- The other value in the field's place.
 use Rattle.std.proofs.Common.{rules, arith}
-use Rattle.sheet.proofs.Setting.{shifted, stays_word}
-use Rattle.sheet.proofs.fields.with_field.Goals as goal
+use Rattle.sheet.proofs.Fields.{shifted, stays_word}
+use Rattle.sheet.proofs.bits.with_field.Goals as goal
 
 pub overflow_cast-result-3 : goal.overflow_cast-result-3
 overflow_cast-result-3 c =

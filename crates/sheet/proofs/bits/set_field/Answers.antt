@@ -1,7 +1,7 @@
 -- Two bytes are written.
 use Rattle.std.proofs.Common.{◌≡◌, ◌+◌, ◌-◌, ◌*◌, ◌/◌, ◌%◌, get_or, rules, arith}
-use Rattle.sheet.proofs.Setting.{sets_bits}
-use Rattle.sheet.proofs.fields.set_field.Goals as goal
+use Rattle.sheet.proofs.Fields.{sets_bits}
+use Rattle.sheet.proofs.bits.set_field.Goals as goal
 
 pub returns : goal.returns
 returns c =

@@ -1,7 +1,7 @@
 -- The field of a step.
 use Rattle.std.proofs.Common.{arith}
-use Rattle.sheet.proofs.Setting.{sets_step}
-use Rattle.sheet.proofs.fields.set_step.Goals as goal
+use Rattle.sheet.proofs.Fields.{sets_step}
+use Rattle.sheet.proofs.sheets.replies.set_step.Goals as goal
 
 pub returns : goal.returns
 returns c =

@@ -1,8 +1,7 @@
-// Fields of bits, set in place at the beginning of some bytes.
-ghost use Rattle.std.specs.Prelude.{◌≡◌, ◌+◌, ◌-◌, ◌*◌, ◌%◌, ◌^◌, ◌<◌, ◌≤◌, length, drop, slice_set};
+// Fields of bits, set in place.
+ghost use Rattle.std.specs.Prelude.{◌≡◌, ◌+◌, ◌-◌, ◌*◌, ◌%◌, ◌^◌, ◌<◌, ◌≤◌, length};
 ghost use Rattle.process.specs.Bits.{field};
-ghost use Rattle.model.specs.Replies.{fields_of};
-ghost use Rattle.sheet.specs.Setting.{Sets, SetsStep};
+ghost use Rattle.sheet.specs.Fields.{Sets};
 
 // A word in which the field of `width` bits above the `low` lowest ones has another value.
 fn with_field(word: u16, low: usize, width: usize, value: u16) -> u16
@@ -15,7 +14,8 @@ fn with_field(word: u16, low: usize, width: usize, value: u16) -> u16
     (word - (had << low) + (u32::from(value) << low)) as u16
 }
 
-/// Sets a field of `width` bits from the bit `at` on, which lies within two bytes; all other bits are kept.
+/// Sets the field of `width` bits from the bit `at` on, the most significant of the first byte being bit 0. It lies
+/// within two of the first 32 bytes; all other bits are kept.
 pub(crate) fn set_field(bytes: &mut [u8], at: usize, width: usize, value: u16)
     requires room { 32 ≤ length bytes.old }
     requires inside { at < 248 }
@@ -29,15 +29,4 @@ pub(crate) fn set_field(bytes: &mut [u8], at: usize, width: usize, value: u16)
     let [high, low] = word.to_be_bytes();
     bytes[first] = high;
     bytes[first + 1] = low;
-}
-
-/// Sets the field of a step in a reply; all other fields are kept.
-pub(crate) fn set_step(bytes: &mut [u8], step: u16, value: u8)
-    requires room { 32 ≤ length bytes.old }
-    requires low { 1 ≤ step }
-    requires high { step ≤ 64 }
-    requires fits { value < 8 }
-    ensures { SetsStep step value bytes.old bytes.new }
-{
-    set_field(bytes, 29 + 3 * usize::from(step), 3, u16::from(value));
 }

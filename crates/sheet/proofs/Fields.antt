@@ -1,38 +1,19 @@
--- A field that is set in place, in numbers, in bytes and among the fields of a reply. Assumes nothing.
-use Rattle.std.proofs.Common.{◌≡◌, ℕ, zero, suc, ◌+◌, ◌-◌, ◌*◌, ◌/◌, ◌%◌, ◌^◌, ◌<◌, ◌≤◌, List, [], ◌∷◌, ◌++◌, length, get_or, take, drop, set, replicate, sym, refl, ap, ◌∙◌, subst, ap₂, mul_assoc, mul_comm, add-one, append_assoc, add_assoc, add_comm, arith}
-use Rattle.std.proofs.lemmas.Nat.{pow-add, pow_pos, shr_split, shr-shr, shr_high, mod_low, mod_below, shr_below, shl_whole, one_shl, mul-add-lt, field_of}
+-- A field that is set in place: in a word, in bytes, and among the fields of a reply. Assumes nothing.
+use Rattle.std.proofs.Common.{◌≡◌, ℕ, zero, suc, ◌+◌, ◌-◌, ◌*◌, ◌/◌, ◌%◌, ◌^◌, ◌<◌, ◌≤◌, List, [], ◌∷◌, ◌++◌, length, get_or, take, drop, set, replicate, sym, refl, ap, ◌∙◌, subst, ap₂, mul_assoc, mul_comm, add-one, append_assoc, arith}
 use native.Mathlib.Nat.{mul-add-mod_self_right}
-use Rattle.std.proofs.lemmas.List.{set_at, length-take-le, drop-set-lt, set-get_or, get_or-drop, length-replicate, replicate-append-replicate}
-use Rattle.process.specs.Bits.{total, pack, field, unpack, Fit}
-use Rattle.sheet.specs.Setting.{number_of, Sets, SetsStep, fields_with}
+use Rattle.std.proofs.lemmas.Nat.{pow-add, pow_pos, shr-shr, shr_high, mod_below, shr_below, shl_whole, one_shl, mul-add-lt, field_of}
+use Rattle.std.proofs.lemmas.List.{length-take-le, drop-set-lt, set-get_or, get_or-drop, length-replicate, replicate-append-replicate}
 use Rattle.values.specs.Numbers.{phase_number}
-use Rattle.values.specs.declared.Phase.{Phase}
+use Rattle.process.specs.Bits.{total, pack, field, unpack}
+use Rattle.process.proofs.Packing.{total_same, total_append, pack_append, above, joined, field_within, put_is, unpack_put}
 use Rattle.model.specs.Chart.{Chart}
 use Rattle.model.specs.Sheet.{Sheet}
 use Rattle.model.specs.Replies.{fields_of}
 use Rattle.model.specs.Report.{reply_widths, reply_bytes}
-use Rattle.process.proofs.Packing.{unpack_high}
+use Rattle.model.proofs.Replying.{phase_small}
+use Rattle.sheet.specs.Fields.{number_of, Sets, SetsStep, fields_with}
 
--- ── numbers ──
-
--- the number with a value in a field, by what is above and below it
-abbrev pub joined : ℕ → ℕ → ℕ → ℕ → ℕ → ℕ
-joined low width above v below = (above * 2 ^ width + v) * 2 ^ low + below
-
--- what is above a field
-abbrev pub above : ℕ → ℕ → ℕ → ℕ
-above low width n = n / 2 ^ low / 2 ^ width
-
-cut : (low width n : ℕ) → joined low width (above low width n) (field low width n) (n % 2 ^ low) ≡ n
-cut low width n = ap (λ k. k * 2 ^ low + n % 2 ^ low) (shr_split (n / 2 ^ low) width) ∙ shr_split n low
-
--- a number that is another one but for a field
-pub put : (low width n m v : ℕ) → m + field low width n * 2 ^ low ≡ n + v * 2 ^ low
-    → m ≡ joined low width (above low width n) v (n % 2 ^ low)
-put low width n m v e = let c = cut low width n in omega arith
-
-had_within : (low width n : ℕ) → field low width n * 2 ^ low ≤ n
-had_within low width n = let c = cut low width n in omega arith
+-- ── a word ──
 
 -- a word of 16 bits stays one
 pub stays_word : (low width n m v : ℕ) → low + width ≤ 16 → v < 2 ^ width → n < 2 ^ 16
@@ -44,7 +25,7 @@ stays_word low width n m v narrow small word e =
     let high = shr_below (n / 2 ^ low) rest width (shr_below n (rest + width) low n_word) in
     let mid = mul-add-lt (above low width n) (2 ^ width) v (2 ^ rest) high small in
     let all = mul-add-lt (above low width n * 2 ^ width + v) (2 ^ low) (n % 2 ^ low) (2 ^ width * 2 ^ rest) mid (mod_below n (2 ^ low) (pow_pos low)) in
-    let is = put low width n m v e in
+    let is = put_is low width n m v e in
     let size : 2 ^ low * (2 ^ width * 2 ^ rest) ≡ 2 ^ 16 =
     mul_comm (2 ^ low) (2 ^ width * 2 ^ rest) ∙ ap (λ k. k * 2 ^ low) (mul_comm (2 ^ width) (2 ^ rest) ∙ sym (pow-add 2 rest width))
     ∙ sym (pow-add 2 (rest + width) low) ∙ ap (λ k. 2 ^ k) whole in
@@ -59,7 +40,7 @@ shifted low width n v narrow small =
     let mask = one_shl width 32 (omega arith) in
     let had = shl_whole f width low 32 (mod_below (n / 2 ^ low) (2 ^ width) (pow_pos width)) (omega arith) in
     let new = shl_whole v width low 32 small (omega arith) in
-    rw (mask, had, new) (omega (arith, had_within low width n))
+    rw (mask, had, new) (omega (arith, field_within low width n))
 
 -- what is above 16 bits does not matter to a field within them
 field_low : (low width a word : ℕ) → low + width ≤ 16 → field low width (a * 2 ^ 16 + word) ≡ field low width word
@@ -87,23 +68,6 @@ bits_in_word t low width a word word' v b narrow small e =
 
 -- ── bytes ──
 
-total-append : (ws us : List ℕ) → total (ws ++ us) ≡ total ws + total us
-total-append [] us = omega arith
-total-append (w ∷ ws) us = let t = total-append ws us in omega arith
-
-total_same : (n w : ℕ) → total (replicate n w) ≡ n * w
-total_same zero w = omega arith
-total_same (suc n) w = let t = total_same n w in omega arith
-
-pack-append : (ws us vs xs : List ℕ) → length vs ≡ length ws → pack (ws ++ us) (vs ++ xs) ≡ pack ws vs * 2 ^ total us + pack us xs
-pack-append [] us [] xs l = omega arith
-pack-append [] us (v ∷ vs) xs l = absurd (omega arith)
-pack-append (w ∷ ws) us [] xs l = absurd (omega arith)
-pack-append (w ∷ ws) us (v ∷ vs) xs l =
-    let rest = pack-append ws us vs xs (omega arith) in
-    let power : 2 ^ total (ws ++ us) ≡ 2 ^ total ws * 2 ^ total us = ap (λ k. 2 ^ k) (total-append ws us) ∙ pow-add 2 (total ws) (total us) in
-    rw power (omega arith)
-
 bytes_below : (n : ℕ) (xs : List ℕ) → ((i : ℕ) → get_or xs i 0 < 256) → pack (replicate n 8) xs < 2 ^ total (replicate n 8)
 bytes_below zero xs h = omega arith
 bytes_below (suc n) [] h = pow_pos (8 + total (replicate n 8))
@@ -130,7 +94,7 @@ number_by_word i r xs x y l =
     let power : 2 ^ total (8 ∷ 8 ∷ replicate {A = ℕ} r 8) ≡ 2 ^ 8 * (2 ^ 8 * 2 ^ t) =
     pow-add 2 8 (8 + t) ∙ ap (λ k. 2 ^ 8 * k) (pow-add 2 8 t) in
     ap₂ (λ ws vs. pack ws vs) (sym (replicate-append-replicate i (suc (suc r)) 8)) (set_two i xs x y l)
-    ∙ pack-append (replicate i 8) (8 ∷ 8 ∷ replicate r 8) (take i xs) (x ∷ y ∷ drop (suc (suc i)) xs) size
+    ∙ pack_append (replicate i 8) (8 ∷ 8 ∷ replicate r 8) (take i xs) (x ∷ y ∷ drop (suc (suc i)) xs) size
     ∙ rw (power, pow-add 2 8 t) (omega arith)
 
 -- two bytes written, whose word has another value in a field
@@ -168,40 +132,6 @@ sets_bits i r low width v place word word' xs x y size long small narrow is had 
 
 -- ── the fields of a reply ──
 
-length-unpack : (ws : List ℕ) (n : ℕ) → length (unpack ws n) ≡ length ws
-length-unpack [] n = refl
-length-unpack (w ∷ ws) n = ap suc (length-unpack ws n)
-
-unpack-append : (ws us : List ℕ) (n : ℕ) → unpack (ws ++ us) n ≡ unpack ws (n / 2 ^ total us) ++ unpack us n
-unpack-append [] us n = refl
-unpack-append (w ∷ ws) us n =
-    let low : n / 2 ^ total (ws ++ us) ≡ n / 2 ^ total us / 2 ^ total ws =
-    ap (λ k. n / 2 ^ k) (total-append ws us ∙ add_comm (total ws) (total us)) ∙ sym (shr-shr n (total us) (total ws)) in
-    ap₂ (λ (x : ℕ) (xs : List ℕ). x ∷ xs) (ap (λ k. k % 2 ^ w) low) (unpack-append ws us n)
-
--- a field set in the number is set in the list
-fields_put : (ws us : List ℕ) (width n m v : ℕ) → v < 2 ^ width
-    → m + field (total us) width n * 2 ^ total us ≡ n + v * 2 ^ total us
-    → unpack (ws ++ width ∷ us) m ≡ set (unpack (ws ++ width ∷ us) n) (length ws) v
-fields_put ws us width n m v small e =
-    let low = total us in
-    let a = above low width n in
-    let b = n % 2 ^ low in
-    let below = mod_below n (2 ^ low) (pow_pos low) in
-    let is = put low width n m v e in
-    let div : m / 2 ^ low ≡ a * 2 ^ width + v = ap (λ k. k / 2 ^ low) is ∙ shr_high (a * 2 ^ width + v) low b below in
-    let high : m / 2 ^ (width + low) ≡ n / 2 ^ (width + low) =
-    ap (λ k. m / 2 ^ k) (add_comm width low) ∙ sym (shr-shr m low width) ∙ ap (λ k. k / 2 ^ width) div ∙ shr_high a width v small
-    ∙ shr-shr n low width ∙ ap (λ k. n / 2 ^ k) (add_comm low width) in
-    let mid : field low width m ≡ v = ap (λ k. k % 2 ^ width) div ∙ mod_low a width v small in
-    let rest : unpack us m ≡ unpack us n =
-    ap (unpack us) is ∙ unpack_high us (a * 2 ^ width + v) b ∙ sym (unpack_high us (a * 2 ^ width + field low width n) b)
-    ∙ ap (unpack us) (cut low width n) in
-    unpack-append ws (width ∷ us) m
-    ∙ ap₂ (λ (xs ys : List ℕ). xs ++ ys) (ap (unpack ws) high) (ap₂ (λ (x : ℕ) (xs : List ℕ). x ∷ xs) mid rest)
-    ∙ sym (ap (λ xs. set xs (length ws) v) (unpack-append ws (width ∷ us) n)
-    ∙ set_at (unpack ws (n / 2 ^ (width + low))) (field low width n) (unpack us n) v (length ws) (length-unpack ws (n / 2 ^ (width + low))))
-
 step_widths : (j r : ℕ) → 64 ≡ j + suc r → reply_widths ≡ (8 ∷ 2 ∷ 6 ∷ 16 ∷ replicate j 3) ++ 3 ∷ (replicate r 3 ++ 32 ∷ [])
 step_widths j r e =
     ap (λ ws. 8 ∷ 2 ∷ 6 ∷ 16 ∷ (ws ++ 32 ∷ [])) (ap (λ n. replicate n 3) e ∙ sym (replicate-append-replicate j (suc r) 3))
@@ -213,7 +143,7 @@ sets_one : (ws us : List ℕ) (width v : ℕ) (before after : List ℕ) → v < 
 unfolding number_of
 sets_one ws us width v before after small e s =
     ap (λ all. unpack all (pack reply_bytes after)) e
-    ∙ fields_put ws us width (pack reply_bytes before) (pack reply_bytes after) v small s.bits
+    ∙ unpack_put ws us width (pack reply_bytes before) (pack reply_bytes after) v small s.bits
     ∙ ap (λ all. set (unpack all (pack reply_bytes before)) (length ws) v) (sym e)
 
 pub sets_step : (k v : ℕ) (before after : List ℕ) → 1 ≤ k → k ≤ 64 → v < 8 → Sets (256 - (29 + 3 * k + 3)) 3 v before after
@@ -221,7 +151,7 @@ pub sets_step : (k v : ℕ) (before after : List ℕ) → 1 ≤ k → k ≤ 64 �
 sets_step k v before after low high small s =
     let r = 64 - k in
     let t : 256 - (29 + 3 * k + 3) ≡ total (replicate r 3 ++ 32 ∷ []) =
-    (let sum = total-append (replicate r 3) (32 ∷ []) in let steps = total_same r 3 in omega arith) in
+    (let sum = total_append (replicate r 3) (32 ∷ []) in let steps = total_same r 3 in omega arith) in
     let place : length (8 ∷ 2 ∷ 6 ∷ 16 ∷ replicate {A = ℕ} (k - 1) 3) ≡ k + 3 = omega (arith, length-replicate {A = ℕ} (k - 1) 3) in
     record {
       fields = sets_one (8 ∷ 2 ∷ 6 ∷ 16 ∷ replicate (k - 1) 3) (replicate r 3 ++ 32 ∷ []) 3 v before after small
@@ -229,9 +159,6 @@ sets_step k v before after low high small s =
           ∙ ap (λ i. set (fields_of before) i v) place;
       rest = s.rest;
     }
-
-phase_small : (p : Phase) → phase_number p < 4
-phase_small p = grind arith
 
 -- the fields before those of the steps, set over zeros
 pub sets_front : (c : Chart) (s : Sheet) (before zeros b d e f : List ℕ) → zeros ≡ replicate (length (take 32 before)) 0
