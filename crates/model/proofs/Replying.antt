@@ -10,7 +10,7 @@ use Rattle.values.specs.declared.Phase.{Phase}
 use Rattle.values.specs.declared.RowState.{RowState}
 use Rattle.values.specs.declared.RowState.TheVariants.{Absent}
 use Rattle.process.specs.Bits.{pack, unpack, Fit}
-use Rattle.process.proofs.Packing.{unpack_fit, repacked}
+use Rattle.process.proofs.Packing.{length_unpack, unpack_fit, repacked}
 use Rattle.model.specs.Search.{each_below}
 use Rattle.model.specs.Chart.{Chart, step_at}
 use Rattle.model.specs.Rows.{Rows}
@@ -21,10 +21,6 @@ use Rattle.model.specs.Sheets.{Orderly}
 use Rattle.model.proofs.Basics.{same_state_eq, eq_same_state}
 
 -- ── fields that fit ──
-
-length_unpack : (ws : List ℕ) (n : ℕ) → length (unpack ws n) ≡ length ws
-length_unpack [] n = refl
-length_unpack (w ∷ ws) n = ap suc (length_unpack ws n)
 
 -- each of the values for n equal widths
 fit_each_below : (n w : ℕ) (vs : List ℕ) → Fit (replicate n w) vs → (i : ℕ) → get_or vs i 0 < 2 ^ w
@@ -42,10 +38,10 @@ fit_append (w ∷ ws) us (v ∷ vs) xs f g = (f.0, fit_append ws us vs xs f.1 g)
 
 -- ── a value for each number below n ──
 
-abbrev column : ℕ → (ℕ → ℕ) → List ℕ
+abbrev pub column : ℕ → (ℕ → ℕ) → List ℕ
 column n f = each_below n (λ i. f i ∷ [])
 
-length_column : (n : ℕ) (f : ℕ → ℕ) → length (column n f) ≡ n
+pub length_column : (n : ℕ) (f : ℕ → ℕ) → length (column n f) ≡ n
 length_column zero f = refl
 length_column (suc n) f = let l = length_column n f in length_push (column n f) (f n) ∙ omega arith
 
@@ -127,7 +123,7 @@ shown_small c s k =
 abbrev step_fields : Chart → Sheet → List ℕ
 step_fields c s = column 64 (λ i. shown c s (i + 1))
 
-phase_small : (p : Phase) → phase_number p < 4
+pub phase_small : (p : Phase) → phase_number p < 4
 phase_small p = grind arith
 
 fields_fit : (c : Chart) (s : Sheet) → Orderly s → length c.0 ≤ 64 → Fit reply_widths (reply_fields c s)

@@ -1,7 +1,8 @@
 -- Packing fields and unpacking them again. Assumes nothing.
-use Rattle.std.proofs.Common.{◌≡◌, ℕ, ◌+◌, ◌*◌, ◌/◌, ◌%◌, ◌^◌, ◌<◌, List, [], ◌∷◌, sym, refl, ap, ◌∙◌, subst, ap₂, mod-eq_of_lt, mul_assoc, mul_comm, add_comm, arith}
+use Rattle.std.proofs.Common.{◌≡◌, ℕ, zero, suc, ◌+◌, ◌*◌, ◌/◌, ◌%◌, ◌^◌, ◌<◌, ◌≤◌, List, [], ◌∷◌, ◌++◌, length, set, replicate, sym, refl, ap, ◌∙◌, subst, ap₂, mod-eq_of_lt, mul_assoc, mul_comm, add_comm, arith}
 use native.Mathlib.Nat.{add-mul-div_right, mul-add-mod_self_right}
-use Rattle.std.proofs.lemmas.Nat.{pow-add, pow_pos, mod-pow-add, mod_below, mul-add-lt, shr_high}
+use Rattle.std.proofs.lemmas.List.{set_at}
+use Rattle.std.proofs.lemmas.Nat.{pow-add, pow_pos, mod-pow-add, mod_below, mod_low, mul-add-lt, shr_high, shr_split, shr-shr}
 use Rattle.process.specs.Bits.{total, pack, field, unpack, Fit}
 
 -- packing what was unpacked gives the lowest bits
@@ -55,3 +56,81 @@ repacked ws bs vs e f =
     let n = pack bs vs in
     let small : n < 2 ^ total ws = subst (λ (t : ℕ). n < 2 ^ t) (sym e) (pack_below bs vs f) in
     ap (unpack bs) (pack_unpack ws n ∙ mod-eq_of_lt small) ∙ unpack_pack bs vs f
+
+-- ── lists of fields, one after another ──
+
+pub total_same : (n w : ℕ) → total (replicate n w) ≡ n * w
+total_same zero w = omega arith
+total_same (suc n) w = let t = total_same n w in omega arith
+
+pub total_append : (ws us : List ℕ) → total (ws ++ us) ≡ total ws + total us
+total_append [] us = omega arith
+total_append (w ∷ ws) us = let t = total_append ws us in omega arith
+
+pub pack_append : (ws us vs xs : List ℕ) → length vs ≡ length ws
+    → pack (ws ++ us) (vs ++ xs) ≡ pack ws vs * 2 ^ total us + pack us xs
+pack_append [] us [] xs l = omega arith
+pack_append [] us (v ∷ vs) xs l = absurd (omega arith)
+pack_append (w ∷ ws) us [] xs l = absurd (omega arith)
+pack_append (w ∷ ws) us (v ∷ vs) xs l =
+    let rest = pack_append ws us vs xs (omega arith) in
+    let power : 2 ^ total (ws ++ us) ≡ 2 ^ total ws * 2 ^ total us =
+    ap (λ k. 2 ^ k) (total_append ws us) ∙ pow-add 2 (total ws) (total us) in
+    rw power (omega arith)
+
+pub length_unpack : (ws : List ℕ) (n : ℕ) → length (unpack ws n) ≡ length ws
+length_unpack [] n = refl
+length_unpack (w ∷ ws) n = ap suc (length_unpack ws n)
+
+unpack_append : (ws us : List ℕ) (n : ℕ) → unpack (ws ++ us) n ≡ unpack ws (n / 2 ^ total us) ++ unpack us n
+unpack_append [] us n = refl
+unpack_append (w ∷ ws) us n =
+    let low : n / 2 ^ total (ws ++ us) ≡ n / 2 ^ total us / 2 ^ total ws =
+    ap (λ k. n / 2 ^ k) (total_append ws us ∙ add_comm (total ws) (total us)) ∙ sym (shr-shr n (total us) (total ws)) in
+    ap₂ (λ (x : ℕ) (xs : List ℕ). x ∷ xs) (ap (λ k. k % 2 ^ w) low) (unpack_append ws us n)
+
+-- ── another value in one field ──
+
+-- what is above a field
+abbrev pub above : ℕ → ℕ → ℕ → ℕ
+above low width n = n / 2 ^ low / 2 ^ width
+
+-- a number by what is above a field, its value, and what is below it
+abbrev pub joined : ℕ → ℕ → ℕ → ℕ → ℕ → ℕ
+joined low width high v below = (high * 2 ^ width + v) * 2 ^ low + below
+
+cut : (low width n : ℕ) → joined low width (above low width n) (field low width n) (n % 2 ^ low) ≡ n
+cut low width n = ap (λ k. k * 2 ^ low + n % 2 ^ low) (shr_split (n / 2 ^ low) width) ∙ shr_split n low
+
+pub field_within : (low width n : ℕ) → field low width n * 2 ^ low ≤ n
+field_within low width n = let c = cut low width n in omega arith
+
+-- m is n with the value v in a field
+pub put_is : (low width n m v : ℕ) → m + field low width n * 2 ^ low ≡ n + v * 2 ^ low
+    → m ≡ joined low width (above low width n) v (n % 2 ^ low)
+put_is low width n m v e = let c = cut low width n in omega arith
+
+-- among the fields of such a number, v stands in the place of the one
+pub unpack_put : (ws us : List ℕ) (width n m v : ℕ) → v < 2 ^ width
+    → m + field (total us) width n * 2 ^ total us ≡ n + v * 2 ^ total us
+    → unpack (ws ++ width ∷ us) m ≡ set (unpack (ws ++ width ∷ us) n) (length ws) v
+unpack_put ws us width n m v small e =
+    let low = total us in
+    let a = above low width n in
+    let b = n % 2 ^ low in
+    let is = put_is low width n m v e in
+    let div : m / 2 ^ low ≡ a * 2 ^ width + v =
+    ap (λ k. k / 2 ^ low) is ∙ shr_high (a * 2 ^ width + v) low b (mod_below n (2 ^ low) (pow_pos low)) in
+    let high : m / 2 ^ (width + low) ≡ n / 2 ^ (width + low) =
+    ap (λ k. m / 2 ^ k) (add_comm width low) ∙ sym (shr-shr m low width)
+    ∙ ap (λ k. k / 2 ^ width) div ∙ shr_high a width v small
+    ∙ shr-shr n low width ∙ ap (λ k. n / 2 ^ k) (add_comm low width) in
+    let mid : field low width m ≡ v = ap (λ k. k % 2 ^ width) div ∙ mod_low a width v small in
+    let rest : unpack us m ≡ unpack us n =
+    ap (unpack us) is ∙ unpack_high us (a * 2 ^ width + v) b
+    ∙ sym (unpack_high us (a * 2 ^ width + field low width n) b) ∙ ap (unpack us) (cut low width n) in
+    let front = unpack ws (n / 2 ^ (width + low)) in
+    unpack_append ws (width ∷ us) m
+    ∙ ap₂ (λ (xs ys : List ℕ). xs ++ ys) (ap (unpack ws) high) (ap₂ (λ (x : ℕ) (xs : List ℕ). x ∷ xs) mid rest)
+    ∙ sym (ap (λ xs. set xs (length ws) v) (unpack_append ws (width ∷ us) n)
+    ∙ set_at front (field low width n) (unpack us n) v (length ws) (length_unpack ws (n / 2 ^ (width + low))))

@@ -10,3 +10,5 @@ pub mod Going
 pub mod Puts
 pub mod Listing
 pub mod Lists
+pub mod Fields
+pub mod Shown

@@ -10,3 +10,4 @@ pub mod Happenings
 pub mod Runs
 pub mod Summaries
 pub mod Listings
+pub mod Fields

@@ -1,6 +1,7 @@
 //! The sheet of a competition: the calls that write it, and events as values.
 #![tactic(auto)]
 
+mod bits;
 mod charts;
 mod events;
 mod memory;

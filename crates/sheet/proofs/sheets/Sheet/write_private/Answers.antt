@@ -1,0 +1,30 @@
+-- Each step in turn.
+use Rattle.std.proofs.Common.{refl, arith, ◌∙◌}
+use Rattle.sheet.proofs.Shown.{none_hidden, all_hidden, one_hidden, one_open}
+use Rattle.sheet.proofs.sheets.Sheet.write_private.Goals as goal
+use Rattle.sheet.proofs.sheets.Sheet.write_private.Goals.{then-is_private, else-is_private}
+
+pub loop-step-init : goal.loop-step-init
+loop-step-init c = record { reply = none_hidden c.args.self.now c.args.bytes.now c.requires.blank; rest = refl }
+
+pub loop-step-preserved : goal.loop-step-preserved
+loop-step-preserved c =
+    let x = c.args.self.now in
+    let n = c.loop-step.step in
+    let so_far = c.loop-step.invariant in
+    elim c.if-is_private.branch [
+      | then-is_private w ↦ rw w.bytes-is record {
+          reply = one_hidden x n c.loop-step.bytes w.set_step.new.bytes (omega arith) (omega arith) w.if-is_private.ensures so_far.reply w.set_step.ensures;
+          rest = w.set_step.ensures.rest ∙ so_far.rest;
+        }
+      | else-is_private w ↦ rw w.bytes-is record {
+          reply = one_open x n c.loop-step.bytes w.if-is_private.ensures so_far.reply;
+          rest = so_far.rest;
+        }
+    ]
+
+pub returns : goal.returns
+returns c = record {
+  reply = all_hidden c.args.self.now c.loop-step.step c.loop-step.bytes (omega arith) c.loop-step.invariant.reply;
+  rest = c.loop-step.invariant.rest;
+}
