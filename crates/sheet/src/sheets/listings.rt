@@ -217,7 +217,7 @@ impl Sheet {
 
     /// Writes the arrows of the compensating graph, rising, and the restart points, rising, into two tables, and says how
     /// many of each.
-    pub(crate) fn listing(
+    pub fn listing(
         &self,
         column: &mut [u8],
         line: &mut [u16],

@@ -100,7 +100,7 @@ impl Sheet {
     }
 
     /// Writes the 32 bytes of a reply at a place of a buffer.
-    pub(crate) fn reply(&self, place: usize, buffer: &mut [u8]) -> Result<(), Fault>
+    pub fn reply(&self, place: usize, buffer: &mut [u8]) -> Result<(), Fault>
         ensures { Replies (chart_of self.now) (sheet_of self.now) place buffer.old result buffer.new }
     {
         if buffer.len().saturating_sub(place) < REPLY {

@@ -90,7 +90,7 @@ impl Sheet {
     }
 
     /// What is told of the sheet: no private entry changes it.
-    pub(crate) fn summary(&self, heap: Global) -> Result<Summary, AllocError>
+    pub fn summary(&self, heap: Global) -> Result<Summary, AllocError>
         ensures tells { IfOk result (λ x. summary_told x ≡ summary_of (chart_of self.now) (sheet_of self.now)) }
         ensures secret { IfOk result (λ x.
             TellsNothingPrivate (chart_of self.now) (sheet_of self.now) (summary_told x)) }
