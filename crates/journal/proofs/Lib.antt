@@ -6,3 +6,4 @@ pub mod Records
 pub mod Steps
 pub mod Blank
 pub mod Parts
+pub mod Playing

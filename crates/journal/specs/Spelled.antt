@@ -2,11 +2,13 @@
 use Rattle.std.specs.Prelude.{ℕ, ℤ, ◌+◌, ◌/◌, ◌%◌, cond, nat_lt, List, [], ◌∷◌, ◌++◌, map, Some, None, Option, codes, decimal}
 use Rattle.std.specs.Fmt.{signed_decimal}
 use Rattle.std.specs.List.{flat_map}
+use Rattle.values.specs.declared.Fault.{Fault}
 use Rattle.values.specs.declared.Phase.{Phase}
 use Rattle.values.specs.declared.Phase.TheVariants.{Forward, Undoing, Parked}
 use Rattle.values.specs.declared.RowArrow.{RowArrow}
 use Rattle.values.specs.declared.RowState.{RowState}
 use Rattle.values.specs.declared.RowState.TheVariants.{Absent, Running, Committed, Dropped, Due, Undone, PassedOver}
+use Rattle.values.specs.declared.TicketNumber.{TicketNumber}
 use Rattle.values.specs.Texts.{spelled}
 use Rattle.model.specs.Summaries.{Counts}
 use Rattle.journal.specs.declared.Wrong.{Wrong}
@@ -73,19 +75,35 @@ hex_digit n = cond (nat_lt n 10) (48 + n) (87 + n)
 abbrev pub hex_text : List ℕ → List ℕ
 hex_text bytes = flat_map (λ b. hex_digit (b / 16) ∷ hex_digit (b % 16) ∷ []) bytes
 
--- the answer to a line: NUMBER WORD: ANSWER
+-- ── answers ──
+
+abbrev pub row_text : ℕ → List ℕ
+row_text row = codes "row " ++ decimal row
+
+abbrev pub ticket_text : TicketNumber → List ℕ
+ticket_text t = codes "ticket " ++ (decimal t.serial ++ (codes "/" ++ decimal t.rollback))
+
+abbrev pub listed_text : List RowArrow → List ℕ → List ℕ
+listed_text arrows restarts = codes "arrows " ++ (parted arrow_text arrows ++ (codes " restart " ++ parted decimal restarts))
+
+abbrev pub declined_text : Fault → List ℕ
+declined_text fault = codes "declined " ++ spelled fault
+
 abbrev pub answer_text : Answer → List ℕ
 answer_text (Process steps arrows) = codes "steps " ++ (decimal steps ++ (codes " arrows " ++ decimal arrows))
-answer_text (Row row) = codes "row " ++ decimal row
+answer_text (Row row) = row_text row
 answer_text Done = codes "done"
-answer_text (Ticket t) = codes "ticket " ++ (decimal t.serial ++ (codes "/" ++ decimal t.rollback))
-answer_text (Listed arrows restarts) =
-    codes "arrows " ++ (parted arrow_text arrows.now ++ (codes " restart " ++ parted decimal restarts.now))
+answer_text (Ticket t) = ticket_text t
+answer_text (Listed arrows restarts) = listed_text arrows.now restarts.now
 answer_text (Reply bytes) = hex_text bytes.now
-answer_text (Declined fault) = codes "declined " ++ spelled fault
+answer_text (Declined fault) = declined_text fault
+
+-- the answer to a line: NUMBER WORD: ANSWER
+abbrev pub text_line : ℕ → List ℕ → List ℕ → List ℕ
+text_line line word text = decimal line ++ (codes " " ++ (word ++ (codes ": " ++ (text ++ codes "\n"))))
 
 abbrev pub answer_line : ℕ → List ℕ → Answer → List ℕ
-answer_line line word answer = decimal line ++ (codes " " ++ (word ++ (codes ": " ++ (answer_text answer ++ codes "\n"))))
+answer_line line word answer = text_line line word (answer_text answer)
 
 abbrev pub phase_text : Phase → List ℕ
 phase_text Forward = codes "forward"

@@ -10,8 +10,10 @@ mod lists;
 mod calls;
 mod events;
 mod fields;
+mod hosts;
 mod names;
 mod outcomes;
+mod play;
 mod replay;
 mod settings;
 mod summary;
@@ -20,6 +22,7 @@ mod wrongs;
 
 pub use answers::Answer;
 pub use events::{Command, HostEvent, Line, Turn};
+pub use hosts::{Hosts, new_hosts};
 pub use outcomes::Outcome;
 pub use replay::run;
 pub use settings::parse;

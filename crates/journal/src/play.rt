@@ -1,0 +1,133 @@
+// A journal's calls made one after another, and what is printed of them.
+ghost use Rattle.std.specs.Prelude.{◌≡◌, ◌+◌, ◌<◌, ◌≤◌, ◌^◌, ◌++◌, length, take, drop, map, string_bytes, OnOk};
+ghost use Rattle.model.specs.Book.{accepted as is_accepted};
+ghost use Rattle.sheet.specs.Lent.{lent_of};
+ghost use Rattle.journal.specs.Calls.{call_of, call_text, line_read};
+ghost use Rattle.journal.specs.Played.{Fits, part_of, is_called, counted, told_text, told_line, play_one, play};
+ghost use Rattle.journal.specs.Playing.{played_of, process_of};
+ghost use Rattle.journal.specs.Spelled.{answer_text};
+
+use crate::answers::{Answer, AnswerLine};
+use crate::events::{HostEvent, Line};
+use crate::hosts::Hosts;
+use crate::summary::CallCounts;
+use sheet::{Competition, Event, Memory};
+use std::alloc::{AllocError, Global};
+use values::Answer as Given;
+
+// A journal that is played: its competition, what was printed so far, and how many calls there were.
+#[derive(Drop)]
+pub(crate) struct Play {
+    pub(crate) competition: Competition<Hosts>,
+    pub(crate) printed: String,
+    pub(crate) calls: CallCounts,
+}
+
+fn first<T>(count: usize, items: &[T]) -> &[T]
+    ensures { result.now ≡ take count items.now }
+{
+    &items[..count.min(items.len())]
+}
+
+fn without<T>(count: usize, items: &[T]) -> &[T]
+    ensures { result.now ≡ drop count items.now }
+{
+    &items[count.min(items.len())..]
+}
+
+// An answer as it is printed, with what the call wrote into memory.
+fn shown<'a>(event: &HostEvent, answer: Given, memory: &'a Memory) -> Answer<'a>
+    ensures { answer_text result ≡ told_text (call_of event.now) answer (lent_of memory.now) }
+{
+    match answer {
+        Given::Row(row) => Answer::Row(row),
+        Given::Done => match *event {
+            Event::Reply { place } => Answer::Reply(first(32, without(place, &memory.buffer))),
+            _ => Answer::Done,
+        },
+        Given::Ticket(ticket) => Answer::Ticket(ticket),
+        Given::Listed { arrows, restarts } => Answer::Listed {
+            arrows: first(arrows, &memory.arrows),
+            restarts: first(restarts, &memory.restarts),
+        },
+        Given::Declined(fault) => Answer::Declined(fault),
+    }
+}
+
+// Prints the line of an answer; of other memory that is lent there is none.
+fn print(
+    heap: Global,
+    printed: &mut String,
+    line: &Line,
+    answer: Given,
+    memory: &Memory,
+) -> Result<(), AllocError>
+    ensures { OnOk result (string_bytes printed.new ≡ string_bytes printed.old
+        ++ told_line (part_of (call_of line.now.event)) line.now.number (call_text (call_of line.now.event))
+        (told_text (call_of line.now.event) answer (lent_of memory.now))) }
+{
+    if let Event::Lend { .. } = line.event {
+        return Ok(());
+    }
+    let text = AnswerLine {
+        line: line.number,
+        word: line.word(),
+        answer: shown(&line.event, answer, memory),
+    };
+    printed.push_str(text.to_string(heap)?.as_str())
+}
+
+fn is_accepted(answer: Given) -> bool
+    ensures { result ≡ is_accepted answer }
+{
+    !matches!(answer, Given::Declined(_))
+}
+
+fn is_call(event: &HostEvent) -> bool
+    ensures { result ≡ is_called (part_of (call_of event.now)) }
+{
+    !matches!(event, Event::Lend { .. } | Event::Control { .. })
+}
+
+impl CallCounts {
+    // One event more; only calls count.
+    fn add(&mut self, event: &HostEvent, answer: Given)
+        requires { Fits 1 self.old }
+        ensures { self.new ≡ counted (part_of (call_of event.now)) (is_accepted answer) self.old }
+    {
+        if !is_call(event) {
+            return;
+        }
+        self.all += 1;
+        if is_accepted(answer) {
+            self.accepted += 1;
+        } else {
+            self.declined += 1;
+        }
+    }
+}
+
+impl Play {
+    // Makes the call of a line, and prints its answer.
+    fn take(&mut self, heap: Global, line: &Line) -> Result<(), AllocError>
+        requires { Fits 1 self.old.calls }
+        ensures played { OnOk result (played_of self.new ≡ play_one (process_of self.old) (played_of self.old) (line_read line.now)) }
+        ensures process { process_of self.new ≡ process_of self.old }
+    {
+        let answer = self.competition.take(heap, &line.event)?.answer;
+        self.calls.add(&line.event, answer);
+        print(heap, &mut self.printed, line, answer, self.competition.memory())
+    }
+
+    // Makes the calls of all lines, and prints their answers.
+    pub(crate) fn run(&mut self, heap: Global, lines: &[Line]) -> Result<(), AllocError>
+        requires { Fits (length lines.now) self.old.calls }
+        ensures played { OnOk result (played_of self.new ≡ play (process_of self.old) (played_of self.old) (map line_read lines.now)) }
+        ensures process { process_of self.new ≡ process_of self.old }
+    {
+        for line in lines {
+            self.take(heap, line)?;
+        }
+        Ok(())
+    }
+}
