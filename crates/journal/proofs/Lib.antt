@@ -4,6 +4,5 @@ pub mod Hex
 pub mod Reading
 pub mod Records
 pub mod Steps
-pub mod Blank
 pub mod Parts
 pub mod Playing

@@ -1,5 +1,5 @@
 -- One call more of a journal that is played. Assumes nothing.
-use Rattle.std.proofs.Common.{◌≡◌, ℕ, Bool, true, List, [], ◌++◌, get_or, sym, refl, ◌∙◌, arith}
+use Rattle.std.proofs.Common.{◌≡◌, ℕ, ◌+◌, ◌≤◌, Bool, true, false, List, [], ◌++◌, get_or, sym, refl, ◌∙◌, arith}
 use Rattle.values.specs.declared.Answer.{Answer}
 use Rattle.host.specs.Views.{switch_switches, pair_switches, SwitchLeft, PairLeft}
 use Rattle.host.specs.declared.hosts.NoCommand.{NoCommand}
@@ -9,14 +9,12 @@ use Rattle.host.specs.declared.switch.SwitchCommand.TheVariants.{On, Off, Below}
 use Rattle.model.specs.Book.{accepted}
 use Rattle.model.specs.Chart.{Chart}
 use Rattle.model.specs.Run.{World, does}
-use Rattle.scorebook.specs.declared.book.ScoreBook.{ScoreBook}
-use Rattle.ledger.specs.declared.book.Ledger.{Ledger}
 use Rattle.sheet.specs.Happenings.{happening, Steers}
 use Rattle.sheet.specs.declared.events.Event.{Event}
 use Rattle.sheet.specs.declared.events.Event.TheVariants as event
-use Rattle.journal.specs.Calls.{Turn, Command, call_of, call_text}
+use Rattle.journal.specs.Calls.{Call, Turn, Command, call_of, call_text}
 use Rattle.journal.specs.Hosts.{Hosts, hosts_view, Switches, switches_of, turned_by, commanded, are_shut}
-use Rattle.journal.specs.Played.{Played, part_of, steered, event_of, counted, told_text, told_line, play_one}
+use Rattle.journal.specs.Played.{Part, called, lent, commands, Fits, Played, part_of, steered, event_of, counted, told_text, told_line, play_one}
 use Rattle.journal.specs.declared.summary.CallCounts.{CallCounts}
 
 -- the hosts are shut exactly while a switch is off
@@ -96,3 +94,23 @@ plays_one c p n e b a w s printed calls did shut steer told count =
       printed = p.printed ++ told_line part n (call_text call) (told_text call (is i).1 (is i).0.lent);
       calls = counted part (accepted (is i).1) p.calls;
     })
+
+-- ── the numbers of calls ──
+
+pub fits_one : (more : ℕ) (n : CallCounts) → 1 ≤ more → Fits more n → Fits 1 n
+fits_one more n some f = record { all = omega (arith, some, f.all); accepted = f.accepted; declined = f.declined }
+
+fits_counted : (part : Part) (accepted : Bool) (n : CallCounts) (more left : ℕ) → left + 1 ≤ more → Fits more n
+    → Fits left (counted part accepted n)
+fits_counted called true n more left less f =
+    record { all = omega (arith, less, f.all); accepted = omega (arith, f.accepted); declined = omega (arith, f.declined) }
+fits_counted called false n more left less f =
+    record { all = omega (arith, less, f.all); accepted = omega (arith, f.accepted); declined = omega (arith, f.declined) }
+fits_counted lent accepted n more left less f = record { all = omega (arith, less, f.all); accepted = f.accepted; declined = f.declined }
+fits_counted (commands c) accepted n more left less f =
+    record { all = omega (arith, less, f.all); accepted = f.accepted; declined = f.declined }
+
+pub fits_played : (c : Chart) (p : Played) (l : ℕ × Call) (more left : ℕ) → left + 1 ≤ more → Fits more p.calls
+    → Fits left (play_one c p l).calls
+fits_played c p (n, call) more left less f =
+    fits_counted (part_of call) _ p.calls more left less f

@@ -1,5 +1,5 @@
 -- The hosts of the program, and how their switches stand. Assumes nothing.
-use Rattle.std.specs.Prelude.{ℕ, Bool, true, false, not, ◌||◌, List, [], ◌∷◌, min}
+use Rattle.std.specs.Prelude.{ℕ, Bool, true, false, not, ◌||◌, min}
 use Rattle.values.specs.declared.Kind.TheVariants.{Score, Fee}
 use Rattle.host.specs.Keys.{rows_most}
 use Rattle.host.specs.View.{View, blank}

@@ -1,28 +1,49 @@
 -- What becomes of the text of a journal. Assumes nothing.
-use Rattle.std.specs.Prelude.{◌≡◌, ℕ, ◌+◌, List, length, Ok, Err, Result, MatchResult}
+use Rattle.std.specs.Prelude.{◌≡◌, ℕ, ◌+◌, Bool, true, false, List, length, Some, None, Ok, Err, Option, Result, ℤ, MatchResult}
 use Rattle.values.specs.declared.Fault.{Fault}
 use Rattle.process.specs.declared.accepted.Process.{Process}
 use Rattle.process.specs.Accepted.{Reading, tables_of}
 use Rattle.process.specs.Reading.{start}
+use Rattle.model.specs.Chart.{Chart}
+use Rattle.model.specs.Summaries.{summary_of}
+use Rattle.ledger.specs.Book.{ledger_view}
+use Rattle.ledger.specs.Fees.{standing_fees}
 use Rattle.journal.specs.declared.Unreadable.{Unreadable}
 use Rattle.journal.specs.declared.outcomes.Outcome.{Outcome}
 use Rattle.journal.specs.Names.{names_handed}
-use Rattle.journal.specs.Outcomes.{shown, unread, declined, replayed, blank_run}
+use Rattle.journal.specs.Hosts.{Hosts, hosts_view}
+use Rattle.journal.specs.Outcomes.{shown, unread, declined, process_line, replayed}
+use Rattle.journal.specs.Played.{Played, play, unplayed}
+use Rattle.journal.specs.Summaries.{joined}
 use Rattle.journal.specs.Settings.{Contents}
 
--- of an accepted process the counts of its steps and arrows are told, and its blank sheet, step by step
-abbrev pub AcceptedTold : List ℕ → ℕ → Outcome → Process → Type 0
-AcceptedTold xs line x q =
-    let names = names_handed (length (tables_of q).0 + 1) xs start in
-    shown x ≡ replayed line (tables_of q) (blank_run (tables_of q) names)
+-- what a journal of an accepted process comes to: its calls are played from a blank sheet at new hosts
+abbrev pub played_out : Contents → Chart → Played
+played_out j c = play c (unplayed j.serial j.scores j.ledger (process_line j.process_line c)) j.calls
+
+-- the balance that is told in the end: where it is wanted it is that of a ledger in hosts that show the world so
+abbrev pub BalanceTold : Bool → Played → Option ℤ → Type 0
+BalanceTold false p b = b ≡ None
+BalanceTold true p b = (h : Hosts) × (hosts_view h ≡ p.world.host) × (b ≡ Some (standing_fees (ledger_view h.first.inner)))
+
+-- what is told in the end of a journal that was played: the lines of its process and of its calls, and then the summary
+pub record Concludes (treasurer : Bool) (c : Chart) (p : Played) (names : List (List ℕ)) (x : Outcome) : Type 0 where
+  pub balance : Option ℤ
+  pub balances : BalanceTold treasurer p balance
+  pub tells : shown x ≡ replayed p.printed (joined p.calls (summary_of c p.world.sheet) names balance)
+
+abbrev pub AcceptedTold : Bool → Contents → Outcome → Process → Type 0
+AcceptedTold treasurer j x q =
+    let c = tables_of q in
+    Concludes treasurer c (played_out j c) (names_handed (length c.0 + 1) j.process start) x
 
 -- the process that the journal stores on a line gets the one answer for its bytes, and that is told
-pub record ProcessTold (xs : List ℕ) (line : ℕ) (x : Outcome) : Type 0 where
+pub record ProcessTold (treasurer : Bool) (j : Contents) (x : Outcome) : Type 0 where
   pub answer : Result Process Fault
-  pub reading : Reading xs answer
-  pub tells : MatchResult answer (AcceptedTold xs line x) (λ f. shown x ≡ declined line f)
+  pub reading : Reading j.process answer
+  pub told : MatchResult answer (AcceptedTold treasurer j x) (λ f. shown x ≡ declined j.process_line f)
 
--- a line that cannot be read is told, and nothing else; else the process
-abbrev pub Ran : Result Contents Unreadable → Outcome → Type 0
-Ran (Err u) x = shown x ≡ unread u
-Ran (Ok j) x = ProcessTold j.process j.process_line x
+-- a line that cannot be read is told, and nothing else; else what became of the process and the calls
+abbrev pub Ran : Bool → Result Contents Unreadable → Outcome → Type 0
+Ran treasurer (Err u) x = shown x ≡ unread u
+Ran treasurer (Ok j) x = ProcessTold treasurer j x

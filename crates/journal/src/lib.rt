@@ -6,11 +6,11 @@ ghost use Rattle.journal.specs.declared.LineError.TheVariants.{Wrong as WrongLin
 ghost use Rattle.journal.specs.declared.ParseError.TheVariants.{Unreadable as UnreadableLine, Memory};
 
 mod answers;
-mod lists;
 mod calls;
 mod events;
 mod fields;
 mod hosts;
+mod lists;
 mod names;
 mod outcomes;
 mod play;

@@ -1,20 +1,15 @@
 // What becomes of a journal: what is printed, what is reported, and whether it was replayed.
-ghost use Rattle.std.specs.Prelude.{◌≡◌, IfOk, map, codes};
+ghost use Rattle.std.specs.Prelude.{◌≡◌, IfOk, codes, string_bytes};
 ghost use Rattle.process.specs.Accepted.{tables_of};
-ghost use Rattle.model.specs.Sheet.{blank};
-ghost use Rattle.model.specs.Summaries.{summary_of};
-ghost use Rattle.sheet.specs.Summaries.{summary_told};
-ghost use Rattle.journal.specs.Outcomes.{shown, unread, declined, replayed, unstarted};
+ghost use Rattle.journal.specs.Outcomes.{shown, unread, declined, process_line, replayed};
 ghost use Rattle.journal.specs.Summaries.{summary_shown};
 
 use crate::Unreadable;
 use crate::answers::{Answer, AnswerLine};
 use crate::summary::Summary;
 use process::Process;
-use process::parts::Step;
-use sheet::{RowCounts, Summary as SheetSummary};
 use std::alloc::{AllocError, Global};
-use values::{Fault, Phase, RowState};
+use values::Fault;
 
 /// What goes to standard output and to standard error, and whether the journal was accepted, so that the status is 0.
 #[derive(Drop)]
@@ -55,23 +50,15 @@ impl Outcome {
         })
     }
 
-    // A journal that was replayed: the process, and the summary.
+    // A journal that was replayed: what was printed of its process and its calls, and the summary.
     pub(crate) fn replayed(
         heap: Global,
-        line: usize,
-        process: &Process,
+        lines: &str,
         summary: &Summary,
     ) -> Result<Outcome, AllocError>
-        ensures { IfOk result (λ x. shown x ≡ replayed line (tables_of process.now) (summary_shown summary.now)) }
+        ensures { IfOk result (λ x. shown x ≡ replayed lines.now (summary_shown summary.now)) }
     {
-        let steps = process.steps().len();
-        let arrows = process.arrows().len();
-        let process = AnswerLine {
-            line,
-            word: "process",
-            answer: Answer::Process { steps, arrows },
-        };
-        let printed = format!(in heap; "{process}{summary}")?;
+        let printed = format!(in heap; "{lines}{summary}")?;
         Ok(Outcome {
             printed,
             reported: String::new(heap),
@@ -80,27 +67,20 @@ impl Outcome {
     }
 }
 
-// How a step stands that has no row.
-fn unstarted(step: &Step) -> Option<RowState>
-    ensures { result ≡ unstarted step.now }
+// The line of a process that was accepted.
+pub(crate) fn process_line(
+    heap: Global,
+    line: usize,
+    process: &Process,
+) -> Result<String, AllocError>
+    ensures { IfOk result (λ t. string_bytes t ≡ process_line line (tables_of process.now)) }
 {
-    (!step.private).then_some(RowState::Absent)
-}
-
-fn all_unstarted(heap: Global, steps: &[Step]) -> Result<Vec<Option<RowState>>, AllocError>
-    ensures { IfOk result (λ v. v.items ≡ map unstarted steps.now) }
-{
-    steps.iter().map(unstarted).collect(heap)
-}
-
-// What is told of a blank sheet of the process.
-pub(crate) fn blank_sheet(heap: Global, process: &Process) -> Result<SheetSummary, AllocError>
-    ensures { IfOk result (λ x. summary_told x ≡ summary_of (tables_of process.now) (blank 0)) }
-{
-    Ok(SheetSummary {
-        phase: Phase::Forward,
-        rollbacks: 0,
-        rows: RowCounts::default(),
-        standings: all_unstarted(heap, process.steps())?,
-    })
+    let steps = process.steps().len();
+    let arrows = process.arrows().len();
+    let process = AnswerLine {
+        line,
+        word: "process",
+        answer: Answer::Process { steps, arrows },
+    };
+    process.to_string(heap)
 }

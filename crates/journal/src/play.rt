@@ -1,17 +1,24 @@
 // A journal's calls made one after another, and what is printed of them.
-ghost use Rattle.std.specs.Prelude.{◌≡◌, ◌+◌, ◌<◌, ◌≤◌, ◌^◌, ◌++◌, length, take, drop, map, string_bytes, OnOk};
+ghost use Rattle.std.specs.Prelude.{◌≡◌, ◌+◌, ◌<◌, ◌≤◌, ◌^◌, ◌++◌, length, take, drop, map, string_bytes, IfOk, OnOk};
+ghost use Rattle.process.specs.Accepted.{tables_of};
 ghost use Rattle.model.specs.Book.{accepted as is_accepted};
 ghost use Rattle.sheet.specs.Lent.{lent_of};
 ghost use Rattle.journal.specs.Calls.{call_of, call_text, line_read};
-ghost use Rattle.journal.specs.Played.{Fits, part_of, is_called, counted, told_text, told_line, play_one, play};
+ghost use Rattle.journal.specs.Played.{Fits, part_of, is_called, counted, told_text, told_line, play_one, play, unplayed};
+ghost use Rattle.journal.specs.Names.{texts};
+ghost use Rattle.journal.specs.Outcomes.{process_line};
 ghost use Rattle.journal.specs.Playing.{played_of, process_of};
+ghost use Rattle.journal.specs.Run.{BalanceTold, Concludes};
 ghost use Rattle.journal.specs.Spelled.{answer_text};
 
+use crate::Journal;
 use crate::answers::{Answer, AnswerLine};
 use crate::events::{HostEvent, Line};
-use crate::hosts::Hosts;
-use crate::summary::CallCounts;
-use sheet::{Competition, Event, Memory};
+use crate::hosts::{Hosts, new_hosts};
+use crate::outcomes::{Outcome, process_line};
+use crate::summary::{CallCounts, Summary};
+use process::Process;
+use sheet::{Competition, Event, Memory, Sheet, Sizes};
 use std::alloc::{AllocError, Global};
 use values::Answer as Given;
 
@@ -107,7 +114,34 @@ impl CallCounts {
     }
 }
 
+/// The memory that calls are lent before a journal says otherwise.
+pub(crate) const FIRST_SIZES: Sizes = Sizes {
+    column: 257,
+    line: 256,
+    arrows: 32640,
+    restarts: 257,
+    buffer: 32,
+};
+
 impl Play {
+    // A journal of a process that was accepted, before its first call.
+    pub(crate) fn of(heap: Global, journal: &Journal, process: Process) -> Result<Play, AllocError>
+        ensures played { IfOk result (λ p. played_of p
+            ≡ unplayed journal.now.serial journal.now.scores journal.now.ledger
+            (process_line journal.now.process_line (tables_of process))) }
+        ensures process { IfOk result (λ p. process_of p ≡ tables_of process) }
+    {
+        let printed = process_line(heap, journal.process_line, &process)?;
+        let sheet = Sheet::new(heap, process, journal.serial)?;
+        let hosts = new_hosts(heap, journal.scores, journal.ledger)?;
+        let memory = Memory::new(heap, FIRST_SIZES)?;
+        Ok(Play {
+            competition: Competition::new(sheet, hosts, memory),
+            printed,
+            calls: CallCounts::default(),
+        })
+    }
+
     // Makes the call of a line, and prints its answer.
     fn take(&mut self, heap: Global, line: &Line) -> Result<(), AllocError>
         requires { Fits 1 self.old.calls }
@@ -116,7 +150,13 @@ impl Play {
     {
         let answer = self.competition.take(heap, &line.event)?.answer;
         self.calls.add(&line.event, answer);
-        print(heap, &mut self.printed, line, answer, self.competition.memory())
+        print(
+            heap,
+            &mut self.printed,
+            line,
+            answer,
+            self.competition.memory(),
+        )
     }
 
     // Makes the calls of all lines, and prints their answers.
@@ -129,5 +169,31 @@ impl Play {
             self.take(heap, line)?;
         }
         Ok(())
+    }
+
+    // The ledger's balance, where it is wanted.
+    fn balance(&self, treasurer: bool) -> Option<i64>
+        ensures { BalanceTold treasurer (played_of self.now) result }
+    {
+        if treasurer {
+            Some(self.competition.host().first().inner().balance())
+        } else {
+            None
+        }
+    }
+
+    // What is told in the end, of a process whose steps have these names.
+    pub(crate) fn outcome(
+        &self,
+        heap: Global,
+        names: Vec<String>,
+        treasurer: bool,
+    ) -> Result<Outcome, AllocError>
+        ensures { IfOk result (Concludes treasurer (process_of self.now) (played_of self.now) (texts names)) }
+    {
+        let sheet = self.competition.sheet().summary(heap)?;
+        let balance = self.balance(treasurer);
+        let summary = Summary::new(heap, self.calls, sheet, names, balance)?;
+        Outcome::replayed(heap, self.printed.as_str(), &summary)
     }
 }

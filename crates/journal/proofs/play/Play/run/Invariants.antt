@@ -1,11 +1,15 @@
-use Rattle.std.proofs.Common.{◌≡◌, ◌+◌, ◌<◌, ◌≤◌, ◌^◌, ◌++◌, length, take, drop, map, string_bytes, OnOk, ℕ, ◌-◌, ◌*◌}
-use Rattle.model.specs.Book.{accepted as is_accepted}
-use Rattle.sheet.specs.Lent.{lent_of}
-use Rattle.journal.specs.Calls.{call_of, call_text, line_read}
-use Rattle.journal.specs.Played.{Fits, part_of, is_called, counted, told_text, told_line, play_one, play}
+-- What is left of the lines leads on to the end, and the numbers of calls fit.
+use Rattle.std.proofs.Common.{◌≡◌, ◌-◌, drop, length, map}
+use Rattle.journal.specs.Calls.{line_read}
+use Rattle.journal.specs.Played.{Fits, play}
 use Rattle.journal.specs.Playing.{played_of, process_of}
-use Rattle.journal.specs.Spelled.{answer_text}
 use Rattle.journal.proofs.play.Play.run.Given as goal
 
 abbrev pub invariant-loop-line : goal.invariant-loop-line
-invariant-loop-line l = ?
+invariant-loop-line l =
+    record {
+      played : play (process_of l.fn.self) (played_of l.self) (map line_read (drop l.line-index l.lines))
+          ≡ play (process_of l.fn.self) (played_of l.fn.self) (map line_read l.lines);
+      process : process_of l.self ≡ process_of l.fn.self;
+      fits : Fits (length l.lines - l.line-index) l.self.calls;
+    }
