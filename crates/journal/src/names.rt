@@ -20,11 +20,7 @@ fn add_name(heap: Global, names: &mut Vec<String>, item: Item<'_>) -> Result<(),
 }
 
 // The names of the steps among the first records that the bytes store.
-pub(crate) fn step_names(
-    heap: Global,
-    stored: &[u8],
-    records: usize,
-) -> Result<Vec<String>, AllocError>
+pub fn step_names(heap: Global, stored: &[u8], records: usize) -> Result<Vec<String>, AllocError>
     ensures { IfOk result (λ v. texts v ≡ names_handed records stored.now start) }
 {
     let mut names = Vec::new(heap);

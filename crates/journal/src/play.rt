@@ -115,7 +115,7 @@ impl CallCounts {
 }
 
 /// The memory that calls are lent before a journal says otherwise.
-pub(crate) const FIRST_SIZES: Sizes = Sizes {
+pub const FIRST_SIZES: Sizes = Sizes {
     column: 257,
     line: 256,
     arrows: 32640,
@@ -191,9 +191,9 @@ impl Play {
     ) -> Result<Outcome, AllocError>
         ensures { IfOk result (Concludes treasurer (process_of self.now) (played_of self.now) (texts names)) }
     {
-        let sheet = self.competition.sheet().summary(heap)?;
         let balance = self.balance(treasurer);
-        let summary = Summary::new(heap, self.calls, sheet, names, balance)?;
+        let sheet = self.competition.sheet();
+        let summary = Summary::of(heap, self.calls, sheet, names, balance)?;
         Outcome::replayed(heap, self.printed.as_str(), &summary)
     }
 }

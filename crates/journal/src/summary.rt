@@ -1,12 +1,14 @@
 // The summary of a run, and how it is printed.
 ghost use Rattle.std.specs.Prelude.{◌≡◌, ◌<◌, ◌++◌, IfOk, string_bytes, Some, codes};
 ghost use Rattle.std.specs.List.{zip};
+ghost use Rattle.model.specs.Summaries.{summary_of};
+ghost use Rattle.sheet.specs.SheetOf.{sheet_of, chart_of};
 ghost use Rattle.sheet.specs.Summaries.{counts_told, summary_told};
 ghost use Rattle.journal.specs.Names.{texts};
 ghost use Rattle.journal.specs.Spelled.{phase_text, standing_text, rows_text, line_text, balance_text, summary_text, shown_byte, shown_name};
 ghost use Rattle.journal.specs.Summaries.{line_shown, lines_shown, summary_shown, joined};
 
-use sheet::{RowCounts, Summary as SheetSummary};
+use sheet::{RowCounts, Sheet, Summary as SheetSummary};
 use std::alloc::{AllocError, Global};
 use std::fmt;
 use values::{Phase, RowState};
@@ -200,6 +202,20 @@ impl Summary {
             steps: step_lines(heap, names, standings)?,
             balance,
         })
+    }
+
+    /// The summary of a sheet after these calls, of a process whose steps have these names.
+    pub fn of(
+        heap: Global,
+        calls: CallCounts,
+        sheet: &Sheet,
+        names: Vec<String>,
+        balance: Option<i64>,
+    ) -> Result<Summary, AllocError>
+        ensures { IfOk result (λ x. summary_shown x
+            ≡ joined calls (summary_of (chart_of sheet.now) (sheet_of sheet.now)) (texts names) balance) }
+    {
+        Summary::new(heap, calls, sheet.summary(heap)?, names, balance)
     }
 
     /// The summary's lines.

@@ -485,7 +485,7 @@ mod tests {
         reported: &str,
         accepted: bool,
     ) -> Result<(), Fail> {
-        let outcome = run(heap, text)?;
+        let outcome = run(heap, text, false)?;
         assert!(rt; outcome.printed.as_str() == printed, "printed");
         assert!(rt; outcome.reported.as_str() == reported, "reported");
         assert!(rt; outcome.accepted == accepted, "accepted");

@@ -1,40 +1,58 @@
 // The program: replays a journal, from a file or from standard input.
 #![tactic(auto)]
 
+mod bench;
+
+use crate::bench::bench;
 use anyhow::anyhow;
 use journal::Outcome;
 use std::io::Read;
 use std::process::ExitCode;
 use std::{env, fs};
 
-const HELP: &str = "tolibwas FILE     replays the journal in the file
-tolibwas          replays the journal on standard input
-tolibwas --help   prints this
+const HELP: &str = "tolibwas FILE             replays the journal in the file
+tolibwas                  replays the journal on standard input
+tolibwas --treasurer ..   adds the ledger's balance at the end
+tolibwas --bench N ..     replays the journal N times, and tells how long a replay takes
+tolibwas --help           prints this
 ";
 
 // What the words after the program's name ask for.
 #[derive(Drop)]
-enum Task {
-    Help,
-    File(String),
-    Input,
+struct Request {
+    help: bool,
+    treasurer: bool,
+    replays: Option<u32>,
+    path: Option<String>,
 }
 
-fn asked_for(rt: &HostRuntime) -> anyhow::Result<Task> {
-    let mut task = Task::Input;
-    for word in env::args(rt)?.skip(1) {
-        if word.as_str() == "--help" {
-            return Ok(Task::Help);
-        }
-        if word.as_str().starts_with('-') {
-            return Err(anyhow!("this option is unknown"));
-        }
-        if let Task::File(_) = task {
-            return Err(anyhow!("there is more than one file"));
-        }
-        task = Task::File(word);
+fn number_of(word: Option<String>) -> anyhow::Result<u32> {
+    let number = word.and_then(|word| word.as_str().parse::<u32>().ok());
+    match number {
+        Some(number) if number > 0 => Ok(number),
+        _ => Err(anyhow!("--bench wants a number of replays")),
     }
-    Ok(task)
+}
+
+fn asked_for(rt: &HostRuntime) -> anyhow::Result<Request> {
+    let mut request = Request {
+        help: false,
+        treasurer: false,
+        replays: None,
+        path: None,
+    };
+    let mut words = env::args(rt)?.skip(1);
+    while let Some(word) = words.next() {
+        match word.as_str() {
+            "--help" => request.help = true,
+            "--treasurer" => request.treasurer = true,
+            "--bench" => request.replays = Some(number_of(words.next())?),
+            option if option.starts_with('-') => return Err(anyhow!("this option is unknown")),
+            _ if request.path.is_some() => return Err(anyhow!("there is more than one file")),
+            _ => request.path = Some(word),
+        }
+    }
+    Ok(request)
 }
 
 fn journal_of_input(rt: &HostRuntime) -> anyhow::Result<Vec<u8>> {
@@ -44,12 +62,12 @@ fn journal_of_input(rt: &HostRuntime) -> anyhow::Result<Vec<u8>> {
 }
 
 // Prints and reports what came of a journal; the status is 0 if it was replayed.
-fn replay(rt: &HostRuntime, text: &[u8]) -> anyhow::Result<ExitCode> {
+fn replay(rt: &HostRuntime, text: &[u8], treasurer: bool) -> anyhow::Result<ExitCode> {
     let Outcome {
         printed,
         reported,
         accepted,
-    } = journal::run(rt.alloc(), text)?;
+    } = journal::run(rt.alloc(), text, treasurer)?;
     print!(rt; "{printed}")?;
     eprint!(rt; "{reported}")?;
     Ok(if accepted {
@@ -60,13 +78,18 @@ fn replay(rt: &HostRuntime, text: &[u8]) -> anyhow::Result<ExitCode> {
 }
 
 fn perform(rt: &HostRuntime) -> anyhow::Result<ExitCode> {
-    match asked_for(rt)? {
-        Task::Help => {
-            print!(rt; "{HELP}")?;
-            Ok(ExitCode::SUCCESS)
-        }
-        Task::File(path) => replay(rt, fs::read(rt, path.as_str())?.as_slice()),
-        Task::Input => replay(rt, journal_of_input(rt)?.as_slice()),
+    let request = asked_for(rt)?;
+    if request.help {
+        print!(rt; "{HELP}")?;
+        return Ok(ExitCode::SUCCESS);
+    }
+    let text = match &request.path {
+        Some(path) => fs::read(rt, path.as_str())?,
+        None => journal_of_input(rt)?,
+    };
+    match request.replays {
+        Some(replays) => bench(rt, text.as_slice(), request.treasurer, replays),
+        None => replay(rt, text.as_slice(), request.treasurer),
     }
 }
 

@@ -1,0 +1,143 @@
+// A journal replayed many times, by the clock.
+use crate::replay;
+use anyhow::anyhow;
+use journal::{
+    CallCounts, FIRST_SIZES, HostEvent, Hosts, Journal, Summary, new_hosts, parse, step_names,
+};
+use process::tables::Tables;
+use process::{COLUMN, LINE, Process};
+use sheet::{Competition, Event, Memory, Sheet, Taken};
+use std::process::ExitCode;
+use std::time::{Duration, Instant};
+use values::{Answer, Fault};
+
+// What a journal replays, again and again.
+#[derive(Drop)]
+struct Course {
+    stored: Vec<u8>,
+    serial: u16,
+    scores: u16,
+    ledger: u16,
+    events: Vec<HostEvent>,
+}
+
+// A replay: the time that its events took, and its summary.
+#[derive(Drop)]
+struct Lap {
+    spent: Duration,
+    summary: Summary,
+}
+
+fn process_of(rt: &HostRuntime, stored: &[u8]) -> anyhow::Result<Result<Process, Fault>> {
+    let tables = Tables::new(rt.alloc())?;
+    let mut column = [0; COLUMN];
+    let mut line = [0; LINE];
+    Ok(process::read(stored, tables, &mut column, &mut line))
+}
+
+fn is_call(event: &HostEvent) -> bool {
+    !matches!(event, Event::Lend { .. } | Event::Control { .. })
+}
+
+// How many calls there were, and what became of them.
+fn counts(events: &[HostEvent], taken: &[Taken]) -> CallCounts {
+    let mut calls = CallCounts::default();
+    for (event, one) in events.iter().zip(taken) {
+        if !is_call(event) {
+            continue;
+        }
+        calls.all = calls.all.saturating_add(1);
+        match one.answer {
+            Answer::Declined(_) => calls.declined = calls.declined.saturating_add(1),
+            _ => calls.accepted = calls.accepted.saturating_add(1),
+        }
+    }
+    calls
+}
+
+impl Course {
+    fn of(rt: &HostRuntime, journal: Journal) -> anyhow::Result<Course> {
+        let Journal {
+            process: stored,
+            process_line: _,
+            serial,
+            scores,
+            ledger,
+            lines,
+        } = journal;
+        let events = lines
+            .into_iter()
+            .map(|line| line.event)
+            .collect(rt.alloc())?;
+        Ok(Course {
+            stored,
+            serial,
+            scores,
+            ledger,
+            events,
+        })
+    }
+
+    // A blank sheet at new hosts, in new memory.
+    fn competition(
+        &self,
+        rt: &HostRuntime,
+        process: Process,
+    ) -> anyhow::Result<Competition<Hosts>> {
+        let heap = rt.alloc();
+        let sheet = Sheet::new(heap, process, self.serial)?;
+        let hosts = new_hosts(heap, self.scores, self.ledger)?;
+        let memory = Memory::new(heap, FIRST_SIZES)?;
+        Ok(Competition::new(sheet, hosts, memory))
+    }
+
+    // Replays the events once; only that is by the clock.
+    fn lap(&self, rt: &HostRuntime, process: Process, treasurer: bool) -> anyhow::Result<Lap> {
+        let steps = process.steps().len();
+        let mut competition = self.competition(rt, process)?;
+        let start = Instant::now(rt)?;
+        let replayed = competition.replay(rt.alloc(), &self.events);
+        let spent = start.elapsed(rt)?;
+        if let Some(error) = replayed.stopped {
+            return Err(error.into());
+        }
+        let calls = counts(&self.events, &replayed.taken);
+        let names = step_names(rt.alloc(), &self.stored, steps + 1)?;
+        let balance = treasurer.then(|| competition.host().first().inner().balance());
+        let summary = Summary::of(rt.alloc(), calls, competition.sheet(), names, balance)?;
+        Ok(Lap { spent, summary })
+    }
+}
+
+// Replays a journal so often, and prints how long a replay took and the summary of the last.
+pub(crate) fn bench(
+    rt: &HostRuntime,
+    text: &[u8],
+    treasurer: bool,
+    replays: u32,
+) -> anyhow::Result<ExitCode> {
+    let Ok(journal) = parse(rt.alloc(), text) else {
+        return replay(rt, text, treasurer);
+    };
+    let course = Course::of(rt, journal)?;
+    let mut spent = Duration::ZERO;
+    let mut last = None;
+    for _ in 0..replays {
+        let Ok(process) = process_of(rt, &course.stored)? else {
+            return replay(rt, text, treasurer);
+        };
+        let lap = course.lap(rt, process, treasurer)?;
+        spent = spent.saturating_add(lap.spent);
+        last = Some(lap.summary);
+    }
+    let Some(summary) = last else {
+        return Err(anyhow!("there must be one replay at least"));
+    };
+    let calls = summary.calls.all;
+    let each = spent
+        .as_nanos()
+        .checked_div(u128::from(replays))
+        .unwrap_or(0);
+    print!(rt; "calls {calls} replays {replays}\nns per replay {each}\n{summary}")?;
+    Ok(ExitCode::SUCCESS)
+}
