@@ -24,7 +24,8 @@ stays_word low width n m v narrow small word e =
     let n_word : n < 2 ^ (rest + width + low) = subst (λ k. n < 2 ^ k) (sym whole) word in
     let high = shr_below (n / 2 ^ low) rest width (shr_below n (rest + width) low n_word) in
     let mid = mul-add-lt (above low width n) (2 ^ width) v (2 ^ rest) high small in
-    let all = mul-add-lt (above low width n * 2 ^ width + v) (2 ^ low) (n % 2 ^ low) (2 ^ width * 2 ^ rest) mid (mod_below n (2 ^ low) (pow_pos low)) in
+    let below = mod_below n (2 ^ low) (pow_pos low) in
+    let all = mul-add-lt (above low width n * 2 ^ width + v) (2 ^ low) (n % 2 ^ low) (2 ^ width * 2 ^ rest) mid below in
     let is = put_is low width n m v e in
     let size : 2 ^ low * (2 ^ width * 2 ^ rest) ≡ 2 ^ 16 =
     mul_comm (2 ^ low) (2 ^ width * 2 ^ rest) ∙ ap (λ k. k * 2 ^ low) (mul_comm (2 ^ width) (2 ^ rest) ∙ sym (pow-add 2 rest width))
@@ -90,7 +91,8 @@ number_by_word : (i r : ℕ) (xs : List ℕ) (x y : ℕ) → suc i < length xs
     ≡ joined (total (replicate r 8)) 16 (pack (replicate i 8) (take i xs)) (x * 2 ^ 8 + y) (pack (replicate r 8) (drop (suc (suc i)) xs))
 number_by_word i r xs x y l =
     let t = total (replicate r 8) in
-    let size : length (take i xs) ≡ length (replicate {A = ℕ} i 8) = length-take-le i xs (omega arith) ∙ sym (length-replicate {A = ℕ} i 8) in
+    let size : length (take i xs) ≡ length (replicate {A = ℕ} i 8) =
+    length-take-le i xs (omega arith) ∙ sym (length-replicate {A = ℕ} i 8) in
     let power : 2 ^ total (8 ∷ 8 ∷ replicate {A = ℕ} r 8) ≡ 2 ^ 8 * (2 ^ 8 * 2 ^ t) =
     pow-add 2 8 (8 + t) ∙ ap (λ k. 2 ^ 8 * k) (pow-add 2 8 t) in
     ap₂ (λ ws vs. pack ws vs) (sym (replicate-append-replicate i (suc (suc r)) 8)) (set_two i xs x y l)
@@ -98,8 +100,8 @@ number_by_word i r xs x y l =
     ∙ rw (power, pow-add 2 8 t) (omega arith)
 
 -- two bytes written, whose word has another value in a field
-pub bits_in_bytes : (n i r low width v : ℕ) (xs : List ℕ) (x y : ℕ) → n ≡ i + suc (suc r) → n ≤ length xs → ((k : ℕ) → get_or xs k 0 < 256)
-    → low + width ≤ 16
+bits_in_bytes : (n i r low width v : ℕ) (xs : List ℕ) (x y : ℕ) → n ≡ i + suc (suc r) → n ≤ length xs
+    → ((k : ℕ) → get_or xs k 0 < 256) → low + width ≤ 16
     → x * 2 ^ 8 + y + field low width (get_or xs i 0 * 2 ^ 8 + get_or xs (suc i) 0) * 2 ^ low
     ≡ get_or xs i 0 * 2 ^ 8 + get_or xs (suc i) 0 + v * 2 ^ low
     → pack (replicate n 8) (set (set xs i x) (suc i) y) + field (r * 8 + low) width (pack (replicate n 8) xs) * 2 ^ (r * 8 + low)
