@@ -1,15 +1,16 @@
 -- The rows that a walk back over passed_over rows marks are those that are linked. Assumes nothing.
-use Rattle.std.proofs.Common.{◌≡◌, ℕ, ◌<◌, Bool, true, false, cond, ◌||◌, eqb, List, [], length, sym, refl, ap, ◌∙◌, inl, inr, arith}
+use Rattle.std.proofs.Common.{◌≡◌, ℕ, ◌<◌, Bool, true, false, cond, ◌&&◌, ◌||◌, eqb, List, [], length, Decides, sym, refl, ap, ◌∙◌, inl, inr, ⊎_elim, arith}
 use borrow.Author.Tests.{clash}
-use Rattle.std.proofs.lemmas.Bool.{eq-eqb, ne_eqb}
+use Rattle.std.proofs.lemmas.Bool.{eq-eqb, ne_eqb, eqb-true, or_cases, or_left, or_right, and_parts, and_from}
 use Rattle.std.proofs.lemmas.Bool.Decides.{same_from_decides, Decides-like}
 use Rattle.values.specs.declared.RowState.TheVariants.{PassedOver}
 use Rattle.graph.specs.Column.{marked}
 use Rattle.graph.specs.Reach.{Start, Explored}
 use Rattle.model.specs.Rollback.{After, next, further, over_passed, linked}
-use Rattle.model.specs.Rows.{in_state}
-use Rattle.model.specs.Search.{has}
+use Rattle.model.specs.Rows.{Rows, in_state}
+use Rattle.model.specs.Search.{any, has}
 use Rattle.model.specs.Sheets.{Lower}
+use Rattle.model.proofs.Basics.{any_out, any_in}
 use Rattle.model.proofs.Reach.{sound_from, after_lower}
 use Rattle.rows.specs.declared.row.Row.{Row}
 use Rattle.rows.specs.Arrows.{Drawn, back, passed_preds}
@@ -77,3 +78,56 @@ module _ (rows : List Row) (lower : Lower (preds_of rows)) (positive : Positive 
       (λ w m. (joins_forth rows lower positive w v m).0) xs e u))
       (within_is (length rows) (over_passed (columns rows) v) lower_over u v
       (λ w m. (joins_forth rows lower positive w v (sym (ap (has w) at_end) ∙ m)).1.1))
+
+-- ── one step back ──
+
+has_test : (b : Bool) (xs : List ℕ) (k : ℕ) → has k (cond b xs []) ≡ true → b ≡ true
+has_test true xs k m = refl
+has_test false xs k m = m
+
+module _ (rows : List Row) (lower : Lower (preds_of rows)) (positive : Positive (preds_of rows)) where
+  abbrev r : Rows
+  r = columns rows
+
+  linked_is : (u v : ℕ) → Decides (linked r u v) (After (over_passed r v) u v)
+  linked_is u v =
+      within_is (length rows) (over_passed r v) (lower_over rows lower positive v) u v
+      (λ w m. (joins_forth rows lower positive w v (sym (ap (has w) (at_end rows lower positive v)) ∙ m)).1.1)
+
+  end_passed : {u q : ℕ} → After (passed_preds r) u q → in_state r PassedOver q ≡ true
+  end_passed {u} {q} (next m) = has_test (in_state r PassedOver q) (preds_of rows q) u m
+  end_passed {u} {q} (further {w = w} p m) = has_test (in_state r PassedOver q) (preds_of rows q) w m
+
+  -- a path to a passed-over row goes on
+  past_end : (u q : ℕ) → in_state r PassedOver q ≡ true → After (over_passed r q) u q → After (passed_preds r) u q
+  past_end u q passed p = ⊎_elim (λ m. next (into u m)) (λ b. further b.2 (into b.0 b.1)) (link_before rows lower positive q p)
+    where
+      into : (w : ℕ) → has w (preds_of rows q) ≡ true → has w (passed_preds r q) ≡ true
+      into w m = ap (λ b. has w (cond b (preds_of rows q) [])) passed ∙ m
+
+  -- what a row brings to each that follows it: itself, and if it is passed over, what is linked to it
+  abbrev pub brings : ℕ → ℕ → Bool
+  brings u q = eqb u q || (in_state r PassedOver q && linked r u q)
+
+  linked_out : (u v : ℕ) → any (brings u) (preds_of rows v) ≡ true → After (over_passed r v) u v
+  linked_out u v h =
+      let (q, m, t) = any_out (brings u) (preds_of rows v) h in
+      let here = ap (has q) (at_end rows lower positive v) ∙ m in
+      elim (or_cases (eqb u q) _ t) [
+        | inl e ↦ next (ap (λ k. has k (over_passed r v v)) (eqb-true u q e) ∙ here)
+        | inr b ↦
+            let (passed, l) = and_parts (in_state r PassedOver q) (linked r u q) b in
+            further (widen rows lower positive v (past_end u q passed ((linked_is u q).0 l))) here
+      ]
+
+  linked_in : (u v : ℕ) → After (over_passed r v) u v → any (brings u) (preds_of rows v) ≡ true
+  linked_in u v (next m) =
+      any_in (brings u) (preds_of rows v) u (sym (ap (has u) (at_end rows lower positive v)) ∙ m) (or_left (eqb u u) _ (eq-eqb u u refl))
+  linked_in u v (further {w = w} p m) =
+      let back = narrow rows lower positive v (lower_over rows lower positive v v w m) p in
+      any_in (brings u) (preds_of rows v) w (sym (ap (has w) (at_end rows lower positive v)) ∙ m)
+      (or_right (eqb u w) _ (and_from (in_state r PassedOver w) (linked r u w) (end_passed back)
+      ((linked_is u w).1 (widen rows lower positive w back))))
+
+  pub linked_step : (u v : ℕ) → linked r u v ≡ any (brings u) (preds_of rows v)
+  linked_step u v = same_from_decides (linked r u v) (any (brings u) (preds_of rows v)) (linked_is u v) (linked_out u v, linked_in u v)
