@@ -1,13 +1,10 @@
 // Questions on the paths between rows.
-ghost use Rattle.std.specs.Prelude.{◌≡◌, ℕ, ◌<◌, ◌≤◌, not, ◌&&◌, ◌||◌, ◌==◌};
-ghost use Rattle.values.specs.declared.RowState.TheVariants.{PassedOver};
+ghost use Rattle.std.specs.Prelude.{◌≡◌, ℕ, ◌<◌, ◌≤◌, not, ◌||◌};
 ghost use Rattle.graph.specs.Held.{held};
 ghost use Rattle.graph.specs.Scratch.{roomy_in};
 ghost use Rattle.model.specs.Calls.{due_after};
-ghost use Rattle.model.specs.Rollback.{linked};
-ghost use Rattle.model.specs.Rows.{in_state};
 ghost use Rattle.rows.specs.Marking.{Walked, due_above, lowest_due};
-ghost use Rattle.rows.specs.Linked.{HasLinks, words_at};
+ghost use Rattle.rows.specs.Linked.{HasLinks, brings, words_at};
 ghost use Rattle.rows.specs.Sets.{member};
 ghost use Rattle.rows.specs.Tables.{rows_of};
 
@@ -52,8 +49,7 @@ impl RowTable {
     fn add_links(&self, row: u16, known: &[RowSet; 257], links: &mut RowSet)
         requires few { row < 256 }
         requires known { HasLinks (rows_of self.now) row (words_at known.now row) }
-        ensures { (u : ℕ) → member links.new.words u ≡ (member links.old.words u
-            || (u == row || (in_state (rows_of self.now) PassedOver row && linked (rows_of self.now) u row))) }
+        ensures { (u : ℕ) → member links.new.words u ≡ (member links.old.words u || brings (rows_of self.now) row u) }
     {
         links.insert(row);
         if self.is_in(RowState::PassedOver, row) {

@@ -22,7 +22,7 @@ module _ (x : Code) where
   module _ (v : ℕ) (words : List ℕ) (links : HasLinks (sheet_of x).rows v words) where
     -- only lower rows are linked to a row
     pub member_lower : (u : ℕ) → member words u ≡ true → u < v
-    member_lower u m = linked_lower (vec_items x.table.rows) x.table.lower x.table.positive v u (sym (links u) ∙ m)
+    member_lower u m = linked_lower (vec_items x.table.rows) x.table.lower x.table.positive u v (sym (links u) ∙ m)
 
     -- an arrow leads to a member that is in the graph
     pub arrow_member : (u : ℕ) → member words u ≡ true → only_if (in_graph (sheet_of x) u) (record { from = v; to = u }) ≡ arrow_to v u

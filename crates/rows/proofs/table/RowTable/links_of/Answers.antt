@@ -1,9 +1,10 @@
-use Rattle.std.proofs.Common.{◌≡◌, ℕ, true, Bool, ◌||◌, get_or, vec_items, sym, ap, ◌∙◌, arith}
+use Rattle.std.proofs.Common.{ℕ, Bool, ◌||◌, get_or, vec_items, sym, ap, ◌∙◌, arith}
 use Rattle.std.proofs.lemmas.List.{take_all}
 use Rattle.model.specs.Search.{any, has}
+use Rattle.rows.specs.Linked.{brings}
 use Rattle.rows.specs.Tables.{rows_of}
 use Rattle.rows.proofs.Arrows.{joins_forth}
-use Rattle.rows.proofs.Links.{brings, linked_step}
+use Rattle.rows.proofs.Links.{linked_step}
 use Rattle.rows.proofs.LinkSets.{has_element, any_more}
 use Rattle.rows.proofs.table.RowTable.links_of.Goals as goal
 
@@ -27,7 +28,7 @@ add_links-requires-clause-known c =
 pub loop-before-preserved : goal.loop-before-preserved
 loop-before-preserved c = λ u.
     let t = c.args.self.now in
-    let p : ℕ → Bool = brings (vec_items t.rows) t.lower t.positive u in
+    let p : ℕ → Bool = λ q. brings (rows_of t) q u in
     let xs = c.predecessors-before-items.result.now in
     let i = c.loop-before.before-index in
     c.add_links.ensures u ∙ ap (λ b. b || p (get_or xs i 0)) (c.loop-before.invariant u) ∙ sym (any_more p xs i c.loop-before-test.true)
@@ -35,7 +36,7 @@ loop-before-preserved c = λ u.
 pub returns : goal.returns
 returns c = λ u.
     let t = c.args.self.now in
-    let p : ℕ → Bool = brings (vec_items t.rows) t.lower t.positive u in
+    let p : ℕ → Bool = λ q. brings (rows_of t) q u in
     let xs = c.predecessors-before-items.result.now in
     c.loop-before.invariant u
     ∙ ap (any p) (take_all c.loop-before.before-index xs c.loop-before-test.false ∙ c.predecessors-before-items.ensures.all)
