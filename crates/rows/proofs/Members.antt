@@ -58,7 +58,8 @@ hit ws w s y four fits small e some =
     let room : s + t < 64 = elim (cases_lt (s + t) 64) [
       | inl l ↦ l
       | inr h ↦
-          let none : bit_at (get_or ws w 0 / 2 ^ s) t ≡ 0 = ap (λ x. x % 2) (shr-shr (get_or ws w 0) s t) ∙ bit_at_above (get_or ws w 0) 64 (s + t) small h in
+          let shifted : bit_at (get_or ws w 0 / 2 ^ s) t ≡ bit_at (get_or ws w 0) (s + t) = ap (λ x. x % 2) (shr-shr (get_or ws w 0) s t) in
+          let none : bit_at (get_or ws w 0 / 2 ^ s) t ≡ 0 = shifted ∙ bit_at_above (get_or ws w 0) 64 (s + t) small h in
           absurd (omega (arith, sym (same t ∙ set) ∙ none))
     ] in (
       omega arith,

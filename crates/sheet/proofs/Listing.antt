@@ -48,7 +48,8 @@ module _ (x : Code) where
   few_from : (v : ℕ) → length (arrows_from (sheet_of x) v) ≤ 257
   few_from v =
       let n = (sheet_of x).rows.count + 1 in
-      omega (arith, x.table.few, x.table.rows.ok.0, ap (length {A = RowArrow}) (map_each (λ u. record { from = v; to = u }) (ends (sheet_of x) v) n), few_lower v n)
+      let same = map_each {X = RowArrow} (λ u. record { from = v; to = u }) (ends (sheet_of x) v) n in
+      omega (arith, x.table.few, x.table.rows.ok.0, ap length same, few_lower v n)
 
   few_at : (v : ℕ) → length (arrows_at (sheet_of x) v) ≤ 257
   few_at v = go (in_graph (sheet_of x) v)

@@ -52,12 +52,15 @@ length_only_if true x = omega arith
 length_only_if false x = omega arith
 
 -- numbers that give nothing, from m on
-pub each_lower : {X : Type 0} (f : ℕ → List X) (m n : ℕ) → m ≤ n → ((k : ℕ) → m ≤ k → k < n → f k ≡ []) → each_below n f ≡ each_below m f
+pub each_lower : {X : Type 0} (f : ℕ → List X) (m n : ℕ) → m ≤ n → ((k : ℕ) → m ≤ k → k < n → f k ≡ [])
+    → each_below n f ≡ each_below m f
 each_lower f m zero l none = let same : zero ≡ m = omega arith in ap (λ k. each_below k f) same
 each_lower f m (suc n) l none =
     elim (cases_eq m (suc n)) [
       | inl e ↦ ap (λ k. each_below k f) (sym e)
-      | inr ne ↦ ap₂ ◌++◌ (each_lower f m n (omega arith) (λ k h u. none k h (omega arith))) (none n (omega arith) (omega arith)) ∙ append-nil (each_below m f)
+      | inr ne ↦
+          let below = each_lower f m n (omega arith) (λ k h u. none k h (omega arith)) in
+          ap₂ ◌++◌ below (none n (omega arith) (omega arith)) ∙ append-nil (each_below m f)
     ]
 
 pub map_each : {X : Type 0} (g : ℕ → X) (p : ℕ → Bool) (n : ℕ) → map g (all_below n p) ≡ each_below n (λ k. only_if (p k) (g k))

@@ -11,7 +11,7 @@ ghost use Rattle.rows.specs.Linked.{HasLinks, words_at};
 ghost use Rattle.rows.specs.Marking.{BackwardMarked};
 ghost use Rattle.values.specs.Checks.{answer};
 ghost use Rattle.values.specs.declared.Mode.TheVariants.{Partial};
-ghost use Rattle.sheet.specs.Listings.{arrows_at, graph_check, Puts};
+ghost use Rattle.sheet.specs.Listings.{arrows_at, graph_check, PointMarks, Puts};
 ghost use Rattle.sheet.specs.Reports.{Lists, points_of};
 ghost use Rattle.sheet.specs.SheetOf.{sheet_of, chart_of};
 
@@ -138,28 +138,37 @@ impl Sheet {
     }
 
     // Puts the restart points of a partial abort: the start, if the way back came to it, and the savepoints.
-    fn put_points_from(&self, f: u16, scratch: &mut Scratch, table: &mut [u16]) -> usize
-        requires { enough (length (held scratch.old.marks.now)) (length scratch.old.line.now) ≡ true }
-        ensures puts { Puts (restart_points (chart_of self.now) (sheet_of self.now).rows (Partial f)) 0 table.old
-            result table.new }
-        ensures loans { SameLoans scratch.old scratch.new }
+    fn put_points_from(&self, f: u16, marks: &Marks, table: &mut [u16]) -> usize
+        requires { BackwardMarked (chart_of self.now) (sheet_of self.now).rows f (held marks.now) }
+        ensures { Puts (restart_points (chart_of self.now) (sheet_of self.now).rows (Partial f)) 0
+            table.old result table.new }
     {
-        self.table
-            .mark_backward(self.process.steps(), f, scratch)
-            .unwrap();
-        let next = put_if(self.is_at_start(f, scratch.marks), 0, table, 0);
-        self.put_stops(f, scratch.marks, table, next)
+        let next = put_if(self.is_at_start(f, marks), 0, table, 0);
+        self.put_stops(f, marks, table, next)
     }
 
     // Puts the restart points of the last abort.
-    fn put_points(&self, scratch: &mut Scratch, table: &mut [u16]) -> usize
-        requires { enough (length (held scratch.old.marks.now)) (length scratch.old.line.now) ≡ true }
-        ensures puts { Puts (points_of (chart_of self.now) (sheet_of self.now)) 0 table.old result table.new }
-        ensures loans { SameLoans scratch.old scratch.new }
+    fn put_points(&self, marks: &Marks, table: &mut [u16]) -> usize
+        requires { PointMarks (chart_of self.now) (sheet_of self.now).rows (sheet_of self.now).mode (held marks.now) }
+        ensures { Puts (points_of (chart_of self.now) (sheet_of self.now)) 0 table.old result table.new }
     {
         match self.mode {
             Mode::Complete => put_if(true, 0, table, 0),
-            Mode::Partial(f) => self.put_points_from(f, scratch, table),
+            Mode::Partial(f) => self.put_points_from(f, marks, table),
+        }
+    }
+
+    // Marks the backward part of the failing row, if the last abort was partial.
+    fn mark_way_back(&self, scratch: &mut Scratch)
+        requires { enough (length (held scratch.old.marks.now)) (length scratch.old.line.now) ≡ true }
+        ensures marks { PointMarks (chart_of self.now) (sheet_of self.now).rows (sheet_of self.now).mode
+            (held scratch.new.marks.now) }
+        ensures loans { SameLoans scratch.old scratch.new }
+    {
+        if let Mode::Partial(f) = self.mode {
+            self.table
+                .mark_backward(self.process.steps(), f, scratch)
+                .unwrap();
         }
     }
 
@@ -188,13 +197,14 @@ impl Sheet {
         self.wants_graph()?;
         // both are counted first: a declined listing leaves both tables as they were
         let links = self.table.links();
+        self.mark_way_back(scratch);
         let arrow_count = self.put_arrows(&links, &mut []);
-        let restart_count = self.put_points(scratch, &mut []);
+        let restart_count = self.put_points(scratch.marks, &mut []);
         if arrow_count > arrows.len() || restart_count > restarts.len() {
             return Err(Layer::Sheet.fault(Cause::ShortMemory, 0));
         }
         self.put_arrows(&links, arrows);
-        self.put_points(scratch, restarts);
+        self.put_points(scratch.marks, restarts);
         Ok((arrow_count, restart_count))
     }
 

@@ -7,4 +7,5 @@ pub returns : goal.returns
 returns c =
     let xs = c.args.self.now.words in
     let ys = c.args.other.now.words in
-    λ k. joined xs ys _ (filled (λ i y. y ≡ bit_or (get_or xs i 0) (get_or ys i 0)) c.from_fn-self.ensures.items (λ i y f l k. search (rules, tests))) k
+    joined xs ys _
+    (filled (λ i y. y ≡ bit_or (get_or xs i 0) (get_or ys i 0)) c.from_fn-self.ensures.items (λ i y f l k. search (rules, tests)))
