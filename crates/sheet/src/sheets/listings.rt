@@ -1,5 +1,5 @@
 // The listing: the compensating graph, and where the competition may go on.
-ghost use Rattle.std.specs.Prelude.{◌≡◌, ℕ, ◌+◌, ◌^◌, ◌<◌, ◌≤◌, true, false, ◌&&◌, length, ◌==◌};
+ghost use Rattle.std.specs.Prelude.{◌≡◌, ℕ, ◌+◌, ◌^◌, ◌<◌, ◌≤◌, true, false, ◌&&◌, length};
 ghost use Rattle.graph.specs.Held.{held};
 ghost use Rattle.graph.specs.Scratch.{SameLoans};
 ghost use Rattle.process.specs.Accepted.{enough};
@@ -23,8 +23,8 @@ use graph::scratch::Scratch;
 use rows::RowSet;
 use values::{Cause, Fault, Layer, Mode, Phase, RowArrow, RowState};
 
-// Each of the functions that put something into a table gives the next place of it. One that is too short, as an empty one,
-// is written as far as it goes: so they also count.
+// Each function that puts something into a table gives the next place of it. A table that is too short is written as far as
+// it goes, so with an empty one the same functions count.
 
 impl Sheet {
     // Whether the current rollback made the row due.
@@ -35,7 +35,7 @@ impl Sheet {
             && matches!(self.table.state(row), RowState::Due | RowState::Undone)
     }
 
-    // Puts the arrows from a row of the graph.
+    // Puts the arrows from a row of the graph, by the set of the rows that are linked to it.
     fn put_arrows_from(&self, from: u16, links: &RowSet, table: &mut [RowArrow], at: usize) -> usize
         requires links { HasLinks (sheet_of self.now).rows from links.now.words }
         requires row { from ≤ (sheet_of self.now).rows.count }
@@ -195,9 +195,9 @@ impl Sheet {
         ensures loans { SameLoans scratch.old scratch.new }
     {
         self.wants_graph()?;
-        // both are counted first: a declined listing leaves both tables as they were
         let links = self.table.links();
         self.mark_way_back(scratch);
+        // both are counted first: a declined listing leaves both tables as they were
         let arrow_count = self.put_arrows(&links, &mut []);
         let restart_count = self.put_points(scratch.marks, &mut []);
         if arrow_count > arrows.len() || restart_count > restarts.len() {
