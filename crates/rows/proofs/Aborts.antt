@@ -1,5 +1,5 @@
 -- What the walks of an abort mark. Assumes nothing.
-use Rattle.std.proofs.Common.{◌≡◌, ℕ, ◌≤◌, Bool, true, List, length, is_ok, Ok, Err, Decides, Result, sym, refl, ◌∙◌}
+use Rattle.std.proofs.Common.{◌≡◌, ℕ, ◌≤◌, true, List, length, is_ok, Ok, Err, Decides, Result, sym, refl, ◌∙◌}
 use borrow.Author.Tests.{clash}
 use Rattle.std.specs.Result.{MatchResult}
 use Rattle.graph.specs.Column.{marked}

@@ -6,8 +6,10 @@ pub mod Falls
 pub mod Later
 pub mod Leasts
 pub mod Links
+pub mod LinkSets
 pub mod Lists
 pub mod Numbered
 pub mod Passing
 pub mod Ranges
+pub mod Members
 pub mod Walks
