@@ -1,6 +1,7 @@
 -- A list searched from its front. Assumes nothing.
-use Rattle.std.proofs.Common.{◌≡◌, ℕ, zero, suc, ◌<◌, Bool, true, ◌&&◌, List, [], ◌∷◌, length, get_or, filter, refl, ap, inl, inr, arith}
+use Rattle.std.proofs.Common.{◌≡◌, ℕ, zero, suc, ◌<◌, Bool, true, ◌&&◌, ◌||◌, false, eqb, List, [], ◌∷◌, ◌++◌, length, get_or, filter, sym, refl, ap, ◌∙◌, inl, inr, arith}
 use Rattle.std.proofs.lemmas.Bool.{cases_eq, eq-eqb, ne_eqb, or_left, or_right}
+use Rattle.std.proofs.Math.Bool.{or_comm, or_assoc}
 use Rattle.model.specs.Search.{any, has}
 
 -- one that passes
@@ -19,3 +20,8 @@ has_kept p k (x ∷ xs) =
       | inl e ↦ let same = ap p e in let met = eq-eqb k x e in grind arith
       | inr n ↦ let not_met = ne_eqb k x n in grind arith
     ]
+
+-- one element more
+pub has_push : (k : ℕ) (xs : List ℕ) (x : ℕ) → has k (xs ++ x ∷ []) ≡ (has k xs || eqb k x)
+has_push k [] x = or_comm (eqb k x) false
+has_push k (y ∷ ys) x = ap (λ b. eqb k y || b) (has_push k ys x) ∙ sym (or_assoc (eqb k y) (has k ys) (eqb k x))

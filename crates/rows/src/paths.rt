@@ -18,7 +18,7 @@ impl RowTable {
     fn any_due_above(&self, row: u16) -> bool
         ensures { result ≡ due_above (rows_of self.now) row }
     {
-        self.above(row).any(|k| self.is_in(RowState::Due, k))
+        self.next_due(row).is_some()
     }
 
     /// The lowest row above this one that is due and marked.

@@ -2,8 +2,10 @@
 ghost use Rattle.std.specs.Prelude.{◌≡◌, ◌≤◌, vec_len, vec_capacity};
 ghost use Rattle.model.specs.Sheets.{Lower};
 ghost use Rattle.rows.specs.Columns.{preds_of, Positive};
+ghost use Rattle.rows.specs.Followers.{HaveFollowers, HasDue};
 
 use crate::row::Row;
+use rowset::RowSet;
 
 mod falls;
 mod reads;
@@ -17,12 +19,19 @@ const MOST_ROWS: usize = 256;
 #[derive(Clone, Copy, PartialEq, Eq, Debug, Drop)]
 pub struct Unfit;
 
-/// The rows of a sheet, numbered from 1.
+/// The rows of a sheet, numbered from 1; beside them, for searches, the rows that follow each by one arrow, and those that
+/// are due.
 #[derive(Drop)]
 pub struct RowTable {
     rows: Vec<Row>,
+    followers: Vec<RowSet>,
+    due: RowSet,
     ghost lower: { Lower (preds_of rows.items) },
     ghost positive: { Positive (preds_of rows.items) },
     ghost few: { vec_len rows ≤ 256 },
     ghost reserved: { 256 ≤ vec_capacity rows },
+    ghost have_followers: { HaveFollowers followers.items (preds_of rows.items) },
+    ghost level: { vec_len followers ≡ vec_len rows },
+    ghost places: { 256 ≤ vec_capacity followers },
+    ghost has_due: { HasDue due rows.items },
 }

@@ -16,9 +16,9 @@ bit_here words w j p e h =
     let place : p % 64 ≡ j = omega arith in
     ap (λ i. eqb (bit_at (get_or words i 0) (p % 64)) 1) word ∙ ap (λ i. eqb (bit_at (get_or words w 0) i) 1) place
 
-pub none_past : (words : List ℕ) → length words ≡ 4 → (p : ℕ) → 256 ≤ p → is_set words p ≡ false
+pub none_past : (words : List ℕ) (p : ℕ) → 64 * length words ≤ p → is_set words p ≡ false
 unfolding is_set
-none_past words long p h =
+none_past words p h =
     ap (λ x. eqb (bit_at x (p % 64)) 1) (get_or_past words (p / 64) 0 (omega arith))
     ∙ ap (λ x. eqb x 1) (bit_at-zero (p % 64))
 

@@ -1,5 +1,5 @@
 -- A set's members, when a bit is written. Assumes nothing.
-use Rattle.std.proofs.Common.{◌≡◌, ℕ, ◌+◌, ◌-◌, ◌*◌, ◌/◌, ◌^◌, ◌<◌, ◌≤◌, true, false, cond, not, ◌&&◌, ◌||◌, eqb, List, length, Some, None, get_or, w64, sym, ap, ◌∙◌, ◌∙◌, inl, inr, arith}
+use Rattle.std.proofs.Common.{◌≡◌, ℕ, ◌+◌, ◌-◌, ◌*◌, ◌/◌, ◌^◌, ◌<◌, ◌≤◌, true, false, cond, not, ◌&&◌, ◌||◌, eqb, List, [], length, Some, None, get_or, w64, sym, ap, ◌∙◌, ◌∙◌, inl, inr, arith}
 use Rattle.std.specs.Int.{trailing_zeros}
 use Rattle.std.proofs.lemmas.Bool.Decides.{nat_tests}
 use Rattle.std.proofs.lemmas.Bool.{cases_eq, cases_lt, both_ways, and_parts, and_right, ne_eqb}
@@ -26,7 +26,7 @@ member_at words p number e =
 pub outside : (words : List ℕ) → length words ≡ 4 → (k : ℕ) → is_number k ≡ false → (not (eqb k 0) && is_set words (k - 1)) ≡ false
 outside words long k none = elim (cases_lt k 257) [
   | inl low ↦ grind (arith, nat_tests)
-  | inr high ↦ let e = none_past words long (k - 1) (omega arith) in and_right (not (eqb k 0)) _ e
+  | inr high ↦ let e = none_past words (k - 1) (omega arith) in and_right (not (eqb k 0)) _ e
 ]
 
 -- taking such a number out
@@ -62,3 +62,8 @@ module _ (words : List ℕ) (from : ℕ) where
           member_at words p t (sym at) ∙ first_in_word words w s y inside fits e some,
           (λ k l u m. both_ways (is_set words (k - 1)) (clear (k - 1) (omega arith) (omega arith)) (and_parts (not (eqb k 0)) _ m).1),
         )
+
+-- ── no words ──
+
+pub none_in_none : (k : ℕ) → (not (eqb k 0) && is_set [] (k - 1)) ≡ false
+none_in_none k = and_right (not (eqb k 0)) _ (none_past [] (k - 1) (omega arith))

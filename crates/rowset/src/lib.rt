@@ -1,7 +1,7 @@
 //! A set of row numbers, from 1 to 256.
 #![tactic(auto)]
 
-ghost use Rattle.std.specs.Prelude.{◌≡◌, ℕ, ◌+◌, ◌<◌, true, false, not, MatchOption, ◌&&◌, ◌||◌, ◌==◌};
+ghost use Rattle.std.specs.Prelude.{◌≡◌, ℕ, ◌+◌, ◌<◌, true, false, not, MatchOption, if◌then◌else◌, ◌&&◌, ◌||◌, ◌==◌};
 ghost use Rattle.graph.specs.Reach.{Least};
 ghost use Rattle.rowset.specs.Members.{is_number, contains};
 
@@ -55,6 +55,18 @@ impl RowSet {
     {
         if let Some(place) = place_of(number) {
             self.words[place / 64] &= !(1 << (place % 64));
+        }
+    }
+
+    /// Makes a number a member or not; changes nothing where it is not from 1 to 256.
+    pub fn put(&mut self, number: u16, is_member: bool)
+        ensures { (k : ℕ) → contains self.new k
+            ≡ (if k == number then is_member && is_number k else contains self.old k) }
+    {
+        if is_member {
+            self.insert(number);
+        } else {
+            self.remove(number);
         }
     }
 

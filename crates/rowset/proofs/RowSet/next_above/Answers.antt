@@ -8,7 +8,7 @@ use Rattle.rowset.proofs.RowSet.next_above.Goals as goal
 pub returns-then-place-ge-NUMBERS : goal.returns-then-place-ge-NUMBERS
 returns-then-place-ge-NUMBERS c =
     let words = c.args.self.now.words in
-    no_member words c.args.number (λ q h. none_past words (omega arith) q (omega arith))
+    no_member words c.args.number (λ q h. none_past words q (omega arith))
 
 pub returns-then-word-ne0 : goal.returns-then-word-ne0
 returns-then-word-ne0 c =
@@ -42,5 +42,5 @@ returns c =
     let words = c.args.self.now.words in
     no_member words c.args.number (λ q h. elim (cases_lt q (64 * c.loop-i.i)) [
       | inl low ↦ c.loop-i.invariant q h low
-      | inr high ↦ none_past words (omega arith) q (omega arith)
+      | inr high ↦ none_past words q (omega arith)
     ])
