@@ -10,12 +10,23 @@ use Rattle.rowset.specs.declared.RowSet.{RowSet}
 use Rattle.rowset.specs.Members.{is_number, contains}
 use Rattle.rowset.proofs.Members.{none_in_none}
 use Rattle.rows.specs.declared.row.Row.{Row}
+use Rattle.rows.specs.declared.table.Sets.{Sets}
 use Rattle.rows.specs.Columns.{no_row, preds_of, Positive}
-use Rattle.rows.specs.Followers.{no_set, set_at, HaveFollowers}
+use Rattle.rows.specs.Followers.{no_set, set_at, HaveFollowers, Told, Tell}
 use Rattle.rows.proofs.Arrows.{no_preds, joins_forth}
 use Rattle.rows.proofs.Leasts.{least_like}
 use Rattle.rows.proofs.Lists.{has_push}
 use Rattle.rows.proofs.Numbered.{inside as in_list, past, item_set, item_push}
+
+-- ── what a table holds of its sets ──
+
+pub told : {sets : Sets} {rows : List Row} → Tell sets rows → Told sets rows
+unfolding Tell
+told t = t
+
+pub tell : {sets : Sets} {rows : List Row} → Told sets rows → Tell sets rows
+unfolding Tell
+tell t = t
 
 -- ── read ──
 

@@ -23,7 +23,7 @@ item_at none xs k = cond (k == 0) none (slice_index_or xs (k - 1) none)
 
 -- row k, counted from 1
 abbrev pub row_at : List Row → ℕ → Row
-row_at rows k = item_at no_row rows k
+row_at rows k = cond (k == 0) no_row (slice_index_or rows (k - 1) no_row)
 
 -- the predecessors of a row, by its number
 abbrev pub preds_of : List Row → ℕ → List ℕ

@@ -85,6 +85,6 @@ impl RowTable {
             number (rolled_of self.old k)) }
     {
         fall_all(&mut self.rows, steps, marks, number);
-        self.due = due_rows(&self.rows);
+        self.sets.due = due_rows(&self.rows);
     }
 }

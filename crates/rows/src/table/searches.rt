@@ -47,7 +47,7 @@ impl RowTable {
     pub(crate) fn next_follower(&self, earlier: u16, after: u16) -> Option<u16>
         ensures { Least (λ k. has earlier ((rows_of self.now).preds k) ≡ true) after result }
     {
-        match numbered(&self.followers, earlier) {
+        match numbered(&self.sets.followers, earlier) {
             Some(followers) => followers.next_above(after),
             None => None,
         }
@@ -57,7 +57,7 @@ impl RowTable {
     pub(crate) fn next_due(&self, after: u16) -> Option<u16>
         ensures { Least (λ k. in_state (rows_of self.now) Due k ≡ true) after result }
     {
-        self.due.next_above(after)
+        self.sets.due.next_above(after)
     }
 
     // Whether a follower is live, and uses an exit up for a row of the step.

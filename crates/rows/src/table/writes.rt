@@ -8,7 +8,7 @@ ghost use Rattle.rows.specs.Columns.{fits};
 ghost use Rattle.rows.specs.Followers.{set_at};
 ghost use Rattle.rows.specs.Tables.{rows_of, rolled_of};
 
-use super::{MOST_ROWS, RowTable, Unfit};
+use super::{MOST_ROWS, RowTable, Sets, Unfit};
 use crate::row::{Row, first_eight};
 use rowset::RowSet;
 use std::alloc::{AllocError, Global};
@@ -36,11 +36,8 @@ impl RowTable {
         let rows = Vec::with_capacity(heap, MOST_ROWS)?;
         let followers = Vec::with_capacity(heap, MOST_ROWS)?;
         let due = RowSet::new();
-        Ok(RowTable {
-            rows,
-            followers,
-            due,
-        })
+        let sets = Sets { followers, due };
+        Ok(RowTable { rows, sets })
     }
 
     /// Puts a row into another state; nothing changes where there is no such row.
@@ -55,7 +52,7 @@ impl RowTable {
         }
         // the row is there: a `get_mut` would look again
         self.rows[number as usize - 1].state = to;
-        self.due.put(number, to == RowState::Due);
+        self.sets.due.put(number, to == RowState::Due);
     }
 
     /// Whether a row that follows these can be added: there is a place, and they are at most eight of the rows.
@@ -81,8 +78,8 @@ impl RowTable {
             return Err(Unfit);
         }
         let row = self.len() + 1;
-        add_follower(&mut self.followers, predecessors, row);
-        self.followers.push_reserved(RowSet::new());
+        add_follower(&mut self.sets.followers, predecessors, row);
+        self.sets.followers.push_reserved(RowSet::new());
         self.rows.push_reserved(Row {
             step,
             predecessors: first_eight(predecessors),

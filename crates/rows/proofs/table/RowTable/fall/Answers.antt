@@ -9,6 +9,7 @@ use Rattle.model.specs.Sheets.{Lower}
 use Rattle.rows.specs.Columns.{columns, preds_of, row_at, Positive}
 use Rattle.rows.specs.Followers.{HaveFollowers}
 use Rattle.rows.proofs.Falls.{fell, columns_fell, preds_fell}
+use Rattle.rows.proofs.Followers.{told, tell}
 use Rattle.rows.proofs.table.RowTable.fall.Goals as goal
 
 pub invariant_of-self : goal.invariant_of-self
@@ -29,11 +30,13 @@ invariant_of-self c =
       positive = subst Positive preds t.positive;
       few = t.few;
       reserved = t.reserved;
-      have_followers = subst (HaveFollowers t.followers.items) preds t.have_followers;
-      level = t.level;
-      places = t.places;
-      has_due = λ k. c.due_rows-self.ensures k
-          ∙ ap (λ (xs : List Row). same_state (row_at xs k).state Due) c.deref.ensures.value;
+      told = tell (record {
+        followers = subst (HaveFollowers t.sets.followers.items) preds (told t.told).followers;
+        level = (told t.told).level ∙ sym (ap length is ∙ long);
+        places = (told t.told).places;
+        due = λ k. c.due_rows-self.ensures k
+            ∙ ap (λ (xs : List Row). same_state (row_at xs k).state Due) c.deref.ensures.value;
+      });
     }
 
 pub returns : goal.returns
