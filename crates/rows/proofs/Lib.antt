@@ -2,7 +2,9 @@ pub mod Aborts
 pub mod Arrows
 pub mod Below
 pub mod Columns
+pub mod Dues
 pub mod Falls
+pub mod Followers
 pub mod Later
 pub mod Leasts
 pub mod Links
@@ -11,5 +13,4 @@ pub mod Lists
 pub mod Numbered
 pub mod Passing
 pub mod Ranges
-pub mod Members
 pub mod Walks

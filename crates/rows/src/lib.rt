@@ -5,12 +5,10 @@ mod counted;
 mod graphs;
 mod paths;
 mod row;
-mod sets;
 mod steps;
 mod struck;
 mod table;
 
 pub use row::{Row, first_eight};
-pub use sets::RowSet;
 pub use steps::step_at;
 pub use table::{RowTable, Unfit};

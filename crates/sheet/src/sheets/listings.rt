@@ -7,7 +7,7 @@ ghost use Rattle.model.specs.Search.{any_below, all_below, has};
 ghost use Rattle.model.specs.Rollback.{behind, stopped, at_start, restart_points};
 ghost use Rattle.model.specs.Sheet.{in_graph, arrows_from, graph_arrows};
 ghost use Rattle.model.specs.Run.{column_after};
-ghost use Rattle.rows.specs.Linked.{HasLinks, words_at};
+ghost use Rattle.rows.specs.Linked.{HasLinks, links_at};
 ghost use Rattle.rows.specs.Marking.{BackwardMarked};
 ghost use Rattle.values.specs.Checks.{answer};
 ghost use Rattle.values.specs.declared.Mode.TheVariants.{Partial};
@@ -20,7 +20,7 @@ use crate::memory::wants_memory;
 use crate::tables::put_if;
 use graph::marks::Marks;
 use graph::scratch::Scratch;
-use rows::RowSet;
+use rowset::RowSet;
 use values::{Cause, Fault, Layer, Mode, Phase, RowArrow, RowState};
 
 // Each function that puts something into a table gives the next place of it. A table that is too short is written as far as
@@ -37,23 +37,23 @@ impl Sheet {
 
     // Puts the arrows from a row of the graph, by the set of the rows that are linked to it.
     fn put_arrows_from(&self, from: u16, links: &RowSet, table: &mut [RowArrow], at: usize) -> usize
-        requires links { HasLinks (sheet_of self.now).rows from links.now.words }
+        requires links { HasLinks (sheet_of self.now).rows from links.now }
         requires row { from ≤ (sheet_of self.now).rows.count }
         requires room { at + 257 < 2 ^ 64 }
         ensures { Puts (arrows_from (sheet_of self.now) from) at table.old result table.new }
     {
         let mut next = at;
-        let mut low = 0;
-        while let Some(to) = links.first_from(low) {
+        let mut last = 0;
+        while let Some(to) = links.next_above(last) {
             next = put_if(self.is_in_graph(to), RowArrow { from, to }, table, next);
-            low = to + 1;
+            last = to;
         }
         next
     }
 
     // Puts the arrows from a row, if it is one of the graph.
     fn put_arrows_at(&self, row: u16, links: &RowSet, table: &mut [RowArrow], at: usize) -> usize
-        requires links { HasLinks (sheet_of self.now).rows row links.now.words }
+        requires links { HasLinks (sheet_of self.now).rows row links.now }
         requires row { row ≤ (sheet_of self.now).rows.count }
         requires room { at + 257 < 2 ^ 64 }
         ensures { Puts (arrows_at (sheet_of self.now) row) at table.old result table.new }
@@ -67,7 +67,7 @@ impl Sheet {
     // Puts the arrows of the graph.
     fn put_arrows(&self, links: &[RowSet; 257], table: &mut [RowArrow]) -> usize
         requires { (v : ℕ) → v ≤ (sheet_of self.now).rows.count
-            → HasLinks (sheet_of self.now).rows v (words_at links.now v) }
+            → HasLinks (sheet_of self.now).rows v (links_at links.now v) }
         ensures { Puts (graph_arrows (sheet_of self.now)) 0 table.old result table.new }
     {
         let mut next = 0;

@@ -5,18 +5,19 @@ use Rattle.rows.specs.Linked.{brings}
 use Rattle.rows.specs.Tables.{rows_of}
 use Rattle.rows.proofs.Arrows.{joins_forth}
 use Rattle.rows.proofs.Links.{linked_step}
-use Rattle.rows.proofs.LinkSets.{has_element, any_more}
+use Rattle.rows.proofs.Dues.{number}
+use Rattle.rows.proofs.Lists.{any_more}
+use Rattle.rows.proofs.LinkSets.{has_element}
 use Rattle.rows.proofs.table.RowTable.links_of.Goals as goal
 
-pub add_links-requires-clause-few : goal.add_links-requires-clause-few
-add_links-requires-clause-few c =
+pub add_links-requires-clause-row : goal.add_links-requires-clause-row
+add_links-requires-clause-row c =
     let t = c.args.self.now in
     let xs = c.predecessors-before-items.result.now in
     let q = get_or xs c.loop-before.before-index 0 in
     let m = sym (ap (has q) c.predecessors-before-items.ensures.all) ∙ has_element xs c.loop-before.before-index c.loop-before-test.true in
-    let low = t.lower c.args.row q m in
-    let row = (joins_forth (vec_items t.rows) t.lower t.positive q c.args.row m).1.1 in
-    omega (arith, t.few, t.rows.ok.0)
+    let (low, high) = (joins_forth (vec_items t.rows) t.lower t.positive q c.args.row m).0 in
+    number q low (omega (arith, t.few, t.rows.ok.0))
 
 pub add_links-requires-clause-known : goal.add_links-requires-clause-known
 add_links-requires-clause-known c =
