@@ -1,6 +1,7 @@
-use Rattle.std.proofs.Common.{◌+◌, List, sym, subst, arith}
+use Rattle.std.proofs.Common.{◌+◌, ◌≤◌, List, sym, subst, arith}
 use Rattle.values.specs.declared.RowArrow.{RowArrow}
 use Rattle.sheet.specs.Listings.{Puts}
+use Rattle.sheet.specs.SheetOf.{sheet_of}
 use Rattle.sheet.proofs.Listing.{arrow_to, member_lower, arrow_member, no_arrows, arrows_between, arrows_up_to, few_lower}
 use Rattle.sheet.proofs.Puts.{puts_none, puts_each}
 use Rattle.sheet.proofs.sheets.Sheet.put_arrows_from.Goals as goal
@@ -19,6 +20,7 @@ put_if-next-requires c =
     let lower = member_lower x v c.args.links.now c.requires.links c.in-Some.to c.in-Some.ensures.1 in
     omega (
       arith,
+      c.in-Some.ensures.0,
       c.loop-to.invariant.puts.place,
       few_lower x v (c.loop-to.last + 1),
       c.requires.room,
@@ -45,6 +47,7 @@ loop-to-preserved c =
 pub returns : goal.returns
 returns c =
     let Up : List RowArrow → Type 0 = λ xs. Puts xs c.args.at c.args.table.now c.loop-to.next c.loop-to.table in
-    let inside = omega (arith, c.loop-to.invariant.lower, c.requires.row) in
-    let all = arrows_up_to c.args.self.now c.args.from c.args.links.now c.requires.links c.loop-to.last inside c.in_default.ensures in
+    let last = c.loop-to.last in
+    let inside : last ≤ (sheet_of c.args.self.now).rows.count = omega (arith, c.loop-to.invariant.lower, c.requires.row) in
+    let all = arrows_up_to c.args.self.now c.args.from c.args.links.now c.requires.links last inside c.in_default.ensures in
     subst Up all c.loop-to.invariant.puts
