@@ -1,7 +1,7 @@
 -- The set of due rows, read and written. Assumes nothing.
-use Rattle.std.proofs.Common.{◌≡◌, ℕ, ◌+◌, ◌<◌, ◌≤◌, Bool, true, false, cond, ◌&&◌, eqb, leb, ltb, List, [], length, Some, None, Option, sym, ap, ◌∙◌, inl, inr, arith}
+use Rattle.std.proofs.Common.{◌≡◌, ℕ, ◌+◌, ◌<◌, ◌≤◌, true, false, cond, ◌&&◌, eqb, ltb, List, [], length, Some, None, Option, sym, ap, ◌∙◌, inl, inr, arith}
 use Rattle.std.specs.Option.{is_some}
-use Rattle.std.proofs.lemmas.Bool.{and_from, and_left, and_right, cases_Bool, cases_eq, cases_lt, eq-eqb, le-leb, lt-ltb, le-ltb, ne_eqb}
+use Rattle.std.proofs.lemmas.Bool.{and_from, and_left, and_right, cases_eq, cases_lt, eq-eqb, false_from_ne_true, lt-ltb, le-ltb, ne_eqb}
 use Rattle.values.specs.declared.RowState.{RowState}
 use Rattle.values.specs.declared.RowState.TheVariants.{Absent, Due, Running}
 use Rattle.values.specs.Numbers.{same_state}
@@ -11,15 +11,13 @@ use Rattle.model.specs.Search.{at_put}
 use Rattle.model.proofs.Basics.{any_below_in, same_state_eq}
 use Rattle.rowset.specs.declared.RowSet.{RowSet}
 use Rattle.rowset.specs.Members.{is_number, contains}
+use Rattle.rowset.proofs.Members.{within_numbers}
 use Rattle.rows.specs.declared.row.Row.{Row}
 use Rattle.rows.specs.Columns.{columns, row_at}
 use Rattle.rows.specs.Followers.{HasDue}
 use Rattle.rows.specs.Marking.{due_above}
 use Rattle.rows.proofs.Below.{any_below_none}
 use Rattle.rows.proofs.Columns.{row_past, known_within}
-
-pub number : (k : ℕ) → 0 < k → k ≤ 256 → is_number k ≡ true
-number k low high = and_from (leb 1 k) (leb k 256) (le-leb 1 k low) (le-leb k 256 high)
 
 -- one row written
 pub due_put : (rows new : List Row) (k : ℕ) (to : RowState) (before now : RowSet) → 0 < k → k ≤ 256
@@ -29,7 +27,7 @@ pub due_put : (rows new : List Row) (k : ℕ) (to : RowState) (before now : RowS
 due_put rows new k to before now low high states put had j =
     put j
     ∙ elim (cases_eq j k) [
-      | inl e ↦ let at = eq-eqb j k e in let there = ap is_number e ∙ number k low high in grind arith
+      | inl e ↦ let at = eq-eqb j k e in let there = ap is_number e ∙ within_numbers k low high in grind arith
       | inr ne ↦ let at = ne_eqb j k ne in let is = had j in grind arith
     ]
     ∙ sym (ap (λ f. same_state (f j) Due) states)
@@ -62,7 +60,7 @@ due_more rows i before now y few is put had k =
     ∙ elim (cases_eq k (i + 1)) [
       | inl e ↦
           let at = eq-eqb k (i + 1) e in
-          let there = ap is_number e ∙ number (i + 1) (omega arith) (omega arith) in
+          let there = ap is_number e ∙ within_numbers (i + 1) (omega arith) (omega arith) in
           let passed = lt-ltb k (i + 1 + 1) (omega arith) in
           let state = ap (λ r. same_state r.state Due) (is ∙ ap (row_at rows) (sym e)) in grind arith
       | inr ne ↦
@@ -89,9 +87,6 @@ none_due rows set e none k = none k ∙ ap (λ r. same_state r.state Due) (row_p
 
 -- ── searches ──
 
-false_unless : (b : Bool) → (b ≡ true → ⊥) → b ≡ false
-false_unless b never = elim (cases_Bool b) [ inl t ↦ absurd (never t) | inr f ↦ f ]
-
 -- a due row is a row
 due_within : (rows : List Row) (k : ℕ) → in_state (columns rows) Due k ≡ true → (0 < k) × (k ≤ length rows)
 due_within rows k h = known_within rows k (ap (λ st. same_state st Absent) (same_state_eq _ Due h))
@@ -101,7 +96,7 @@ pub due_above_is : (rows : List Row) (row : ℕ) (o : Option ℕ) → Least (λ 
     → is_some o ≡ due_above (columns rows) row
 due_above_is rows row None none =
     sym (any_below_none (length rows + 1) _ (λ k l. elim (cases_lt row k) [
-      | inl high ↦ and_right (ltb row k) _ (false_unless _ (none k high))
+      | inl high ↦ and_right (ltb row k) _ (false_from_ne_true _ (none k high))
       | inr low ↦ and_left (ltb row k) _ (le-ltb row k low)
     ]))
 due_above_is rows row (Some k) (high, due, least) =

@@ -62,6 +62,11 @@ module _ (steps : List Step) (mark : ℕ → Bool) (number : ℕ) where
         subst (λ k. row_at (set now k x) ≡ partly old (i + 1)) e
         (row_set now (i + 1) x (omega arith) (omega arith) ∙ fun_ext next)
 
+  -- rows that fell where they were lent
+  pub fell_lent : (rows lent new : List Row) → lent ≡ rows → length new ≡ length lent → row_at new ≡ fell lent
+      → (length new ≡ length rows) × (row_at new ≡ fell rows)
+  fell_lent rows lent new same long falls = (long ∙ ap length same, falls ∙ ap {B = ℕ → Row} fell same)
+
   -- the columns of a table whose rows have fallen
   module _ (rows new : List Row) (long : length new ≡ length rows) (falls : row_at new ≡ fell rows) where
     pub columns_fell : columns new ≡ with_states (columns rows) (λ k. (fell rows k).state)

@@ -12,7 +12,7 @@ use Rattle.rowset.proofs.Members.{none_in_none}
 use Rattle.rows.specs.declared.row.Row.{Row}
 use Rattle.rows.specs.declared.table.Sets.{Sets}
 use Rattle.rows.specs.Columns.{no_row, preds_of, Positive}
-use Rattle.rows.specs.Followers.{no_set, set_at, HaveFollowers, Told, Tell}
+use Rattle.rows.specs.Followers.{no_set, set_at, HaveFollowers, HasDue, Told, Tell}
 use Rattle.rows.proofs.Arrows.{no_preds, joins_forth}
 use Rattle.rows.proofs.Leasts.{least_like}
 use Rattle.rows.proofs.Lists.{any_more}
@@ -27,6 +27,16 @@ told t = t
 pub tell : {sets : Sets} {rows : List Row} → Told sets rows → Tell sets rows
 unfolding Tell
 tell t = t
+
+-- rows whose predecessors stay
+pub told_kept : (sets : Sets) (due : RowSet) (rows new : List Row) → preds_of rows ≡ preds_of new → length new ≡ length rows
+    → HasDue due new → Tell sets rows → Tell (record { followers = sets.followers; due = due }) new
+told_kept sets due rows new preds long has t = tell (record {
+  followers = subst (HaveFollowers sets.followers.items) preds (told t).followers;
+  level = (told t).level ∙ sym long;
+  places = (told t).places;
+  due = has;
+})
 
 -- ── read ──
 

@@ -1,8 +1,8 @@
 -- A set's members, when a bit is written. Assumes nothing.
-use Rattle.std.proofs.Common.{◌≡◌, ℕ, ◌+◌, ◌-◌, ◌*◌, ◌/◌, ◌^◌, ◌<◌, ◌≤◌, true, false, cond, not, ◌&&◌, ◌||◌, eqb, List, [], length, Some, None, get_or, w64, bit_or, sym, ap, ap₂, ◌∙◌, inl, inr, arith}
+use Rattle.std.proofs.Common.{◌≡◌, ℕ, ◌+◌, ◌-◌, ◌*◌, ◌/◌, ◌^◌, ◌<◌, ◌≤◌, true, false, cond, not, ◌&&◌, ◌||◌, eqb, leb, List, [], length, Some, None, get_or, w64, bit_or, sym, ap, ap₂, ◌∙◌, inl, inr, arith}
 use Rattle.std.specs.Int.{trailing_zeros}
 use Rattle.std.proofs.lemmas.Bool.Decides.{nat_tests}
-use Rattle.std.proofs.lemmas.Bool.{cases_eq, cases_lt, both_ways, and_parts, and_right, ne_eqb}
+use Rattle.std.proofs.lemmas.Bool.{cases_eq, cases_lt, both_ways, and_from, and_parts, and_right, le-leb, ne_eqb}
 use Rattle.graph.specs.Reach.{Least}
 use Rattle.rowset.specs.Members.{is_set, is_number}
 use Rattle.rowset.proofs.Bits.{none_past, either_bit, zeros, first_in_word, none_before}
@@ -15,6 +15,10 @@ module _ (old new : List ℕ) (q number : ℕ) (place : q + 1 ≡ number) (insid
   pub removed : ((p : ℕ) → is_set new p ≡ cond (eqb p q) false (is_set old p)) → (k : ℕ)
       → (not (eqb k 0) && is_set new (k - 1)) ≡ ((not (eqb k 0) && is_set old (k - 1)) && not (eqb k number))
   removed write k = let w = write (k - 1) in grind (arith, nat_tests)
+
+-- the numbers that a set can have
+pub within_numbers : (k : ℕ) → 0 < k → k ≤ 256 → is_number k ≡ true
+within_numbers k low high = and_from (leb 1 k) (leb k 256) (le-leb 1 k low) (le-leb k 256 high)
 
 -- a number by the place of its bit
 pub member_at : (words : List ℕ) (p number : ℕ) → p + 1 ≡ number → (not (eqb number 0) && is_set words (number - 1)) ≡ is_set words p

@@ -1,11 +1,11 @@
 use Rattle.std.proofs.Common.{ℕ, Bool, ◌||◌, get_or, vec_items, sym, ap, ◌∙◌, arith}
 use Rattle.std.proofs.lemmas.List.{take_all}
 use Rattle.model.specs.Search.{any, has}
+use Rattle.rowset.proofs.Members.{within_numbers}
 use Rattle.rows.specs.Linked.{brings}
 use Rattle.rows.specs.Tables.{rows_of}
 use Rattle.rows.proofs.Arrows.{joins_forth}
 use Rattle.rows.proofs.Links.{linked_step}
-use Rattle.rows.proofs.Dues.{number}
 use Rattle.rows.proofs.Lists.{any_more}
 use Rattle.rows.proofs.LinkSets.{has_element}
 use Rattle.rows.proofs.table.RowTable.links_of.Goals as goal
@@ -17,7 +17,7 @@ add_links-requires-clause-row c =
     let q = get_or xs c.loop-before.before-index 0 in
     let m = sym (ap (has q) c.predecessors-before-items.ensures.all) ∙ has_element xs c.loop-before.before-index c.loop-before-test.true in
     let (low, high) = (joins_forth (vec_items t.rows) t.lower t.positive q c.args.row m).0 in
-    number q low (omega (arith, t.few, t.rows.ok.0))
+    within_numbers q low (omega (arith, t.few, t.rows.ok.0))
 
 pub add_links-requires-clause-known : goal.add_links-requires-clause-known
 add_links-requires-clause-known c =
