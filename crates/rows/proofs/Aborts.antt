@@ -38,7 +38,8 @@ path_from n preds joins {u} {v} (next m) = (joins v u m).1
 path_from n preds joins (further p m) = path_from n preds joins p
 
 -- all committed rows are marked where all rows are
-pub all_struck : (rows : List Row) (c : Chart) (m : Mode) (xs : List ℕ) → m ≡ Complete → AllMarked (columns rows) xs → StruckMarked c (columns rows) m xs
+pub all_struck : (rows : List Row) (c : Chart) (m : Mode) (xs : List ℕ) → m ≡ Complete → AllMarked (columns rows) xs
+    → StruckMarked c (columns rows) m xs
 all_struck rows c m xs e all k =
     elim (cases_Bool (in_state (columns rows) Committed k)) [
       | inl t ↦

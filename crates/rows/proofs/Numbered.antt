@@ -65,7 +65,8 @@ item_push d xs x = fun_ext (λ j. ⊎_elim (last j) (λ e. ⊎_elim (none j) (ot
     n : ℕ
     n = length xs
 
-    last : (j : ℕ) → (eqb j (length xs + 1) ≡ true) × (j ≡ length xs + 1) → item_at d (xs ++ x ∷ []) j ≡ at_put (item_at d xs) (length xs + 1) x j
+    last : (j : ℕ) → (eqb j (length xs + 1) ≡ true) × (j ≡ length xs + 1)
+        → item_at d (xs ++ x ∷ []) j ≡ at_put (item_at d xs) (length xs + 1) x j
     last j e =
         let q : j ≡ length xs + 1 = e.1 in
         let p : get_or (xs ++ x ∷ []) (j - 1) d ≡ x = get_or_push xs x d (j - 1) (omega (arith, q)) in
@@ -79,7 +80,8 @@ item_push d xs x = fun_ext (λ j. ⊎_elim (last j) (λ e. ⊎_elim (none j) (ot
         get_or_past (xs ++ x ∷ []) (j - 1) d (omega (arith, length-append xs (x ∷ [])))
         ∙ sym (get_or_past xs (j - 1) d (omega arith))
 
-    other : (j : ℕ) → (j ≡ length xs + 1 → ⊥) → (eqb j 0 ≡ false) × (j ≡ 0 → ⊥) → item_at d (xs ++ x ∷ []) j ≡ at_put (item_at d xs) (length xs + 1) x j
+    other : (j : ℕ) → (j ≡ length xs + 1 → ⊥) → (eqb j 0 ≡ false) × (j ≡ 0 → ⊥)
+        → item_at d (xs ++ x ∷ []) j ≡ at_put (item_at d xs) (length xs + 1) x j
     other j q z =
         let nz : j ≡ 0 → ⊥ = z.1 in
         let p : get_or (xs ++ x ∷ []) (j - 1) d ≡ get_or xs (j - 1) d =

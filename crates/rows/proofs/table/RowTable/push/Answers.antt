@@ -68,7 +68,8 @@ invariant_of-self c =
     let preds : preds_of c.push_reserved-2.new.self.items ≡ at_put (preds_of rows) (length rows + 1) fs =
     ap preds_of p.items ∙ preds_grown rows c.args.step c.first_eight.result fs c.args.entry e in
     let long : length sets ≡ length s.sets.followers.items = c.add_follower.ensures.len ∙ ap length c.deref_mut.ensures.value in
-    let stored = q.items ∙ ap (λ (xs : List RowSet). xs ++ c.new.result ∷ []) (with_items_is s.sets.followers sets (long ∙ sym s.sets.followers.ok.0)) in
+    let lent = with_items_is s.sets.followers sets (long ∙ sym s.sets.followers.ok.0) in
+    let stored = q.items ∙ ap (λ (xs : List RowSet). xs ++ c.new.result ∷ []) lent in
     let linked : (k v : ℕ) → contains (set_at sets k) v
     ≡ (contains (set_at s.sets.followers.items k) v || (eqb v (length rows + 1) && has k fs)) =
     λ k v. c.add_follower.ensures.sets k v
