@@ -27,7 +27,8 @@ before_append (step s place) rest = refl
 before_append (arrow a) rest = refl
 
 -- the names so far, and those of the k - i records that are left, are all the names
-module _ (k i : ℕ) (xs : List ℕ) (c : Cursor) (names whole : List (List ℕ)) (l : i < k) (inv : names ++ names_handed (k - i) xs c ≡ whole) where
+module _ (k i : ℕ) (xs : List ℕ) (c : Cursor) (names whole : List (List ℕ)) (l : i < k)
+    (inv : names ++ names_handed (k - i) xs c ≡ whole) where
   unrolled : names_handed (k - i) xs c ≡ names_after (next xs c) (names_handed (k - (i + 1)))
   unrolled = let e : k - i ≡ suc (k - (i + 1)) = omega arith in ap (λ n. names_handed n xs c) e
 

@@ -50,12 +50,7 @@ fn listings(rt: HostRuntime) -> Result<(), Fail> {
         arrows: &arrows,
         restarts: &[0, 11],
     };
-    is_printed(
-        &rt,
-        heap,
-        several,
-        "arrows 4>2,4>3,256>1 restart 0,11",
-    )?;
+    is_printed(&rt, heap, several, "arrows 4>2,4>3,256>1 restart 0,11")?;
     let one = Answer::Listed {
         arrows: &[],
         restarts: &[5],

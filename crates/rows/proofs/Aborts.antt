@@ -1,18 +1,26 @@
 -- What the walks of an abort mark. Assumes nothing.
-use Rattle.std.proofs.Common.{◌≡◌, ℕ, ◌≤◌, Bool, true, List, length, is_ok, Ok, Err, Decides, Result, sym, refl, ◌∙◌}
+use Rattle.std.proofs.Common.{◌≡◌, ℕ, ◌≤◌, true, List, length, is_ok, Ok, Err, Decides, Result, sym, refl, ap, ◌∙◌, inl, inr}
 use borrow.Author.Tests.{clash}
+use Rattle.std.proofs.lemmas.Bool.{and_from, and_left, cases_Bool}
 use Rattle.std.specs.Result.{MatchResult}
 use Rattle.graph.specs.Column.{marked}
 use Rattle.graph.specs.Reach.{Within, Start, start, Explored}
+use Rattle.values.specs.declared.Mode.{Mode}
+use Rattle.values.specs.declared.Mode.TheVariants.{Complete}
+use Rattle.values.specs.declared.RowState.TheVariants.{Absent, Committed}
+use Rattle.values.specs.Numbers.{same_state}
 use Rattle.model.specs.Chart.{Chart}
-use Rattle.model.specs.Rollback.{After, next, further, uncut, backward}
+use Rattle.model.specs.Rollback.{After, next, further, uncut, backward, strikes}
+use Rattle.model.specs.Rows.{in_state}
 use Rattle.model.specs.Sheets.{Lower}
+use Rattle.model.proofs.Basics.{same_state_eq}
 use Rattle.model.proofs.Reach.{sound_from}
 use Rattle.rows.specs.declared.row.Row.{Row}
 use Rattle.rows.specs.Arrows.{Drawn, forth, back, passed_preds}
 use Rattle.rows.specs.Columns.{columns, preds_of, Positive}
-use Rattle.rows.specs.Marking.{Passing, AllMarked, BackwardMarked, PartMarked}
+use Rattle.rows.specs.Marking.{Passing, AllMarked, BackwardMarked, PartMarked, StruckMarked}
 use Rattle.rows.proofs.Arrows.{Joins, joins_forth, joins_cut, lower_cut}
+use Rattle.rows.proofs.Columns.{known_within}
 use Rattle.rows.proofs.Passing.{start_passes, passing_starts}
 use Rattle.rows.proofs.Walks.{back_within, forth_within}
 
@@ -28,6 +36,18 @@ walked_ok (Err x) Done No ok d = absurd (clash ok)
 path_from : (n : ℕ) (preds : ℕ → List ℕ) → Joins n (back preds) → {u v : ℕ} → After preds u v → Within n u
 path_from n preds joins {u} {v} (next m) = (joins v u m).1
 path_from n preds joins (further p m) = path_from n preds joins p
+
+-- all committed rows are marked where all rows are
+pub all_struck : (rows : List Row) (c : Chart) (m : Mode) (xs : List ℕ) → m ≡ Complete → AllMarked (columns rows) xs
+    → StruckMarked c (columns rows) m xs
+all_struck rows c m xs e all k =
+    elim (cases_Bool (in_state (columns rows) Committed k)) [
+      | inl t ↦
+          let here = known_within rows k (ap (λ st. same_state st Absent) (same_state_eq _ Committed t)) in
+          and_from (in_state (columns rows) Committed k) (marked xs k) t (all k here) ∙ sym t
+      | inr f ↦ and_left (in_state (columns rows) Committed k) (marked xs k) f ∙ sym f
+    ]
+    ∙ ap (λ n. strikes c (columns rows) n k) (sym e)
 
 module _ (rows : List Row) (lower : Lower (preds_of rows)) (positive : Positive (preds_of rows)) where
   -- a walk back from f

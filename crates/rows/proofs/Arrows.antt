@@ -5,12 +5,11 @@ use Rattle.std.proofs.lemmas.Bool.{cases_lt, and_parts}
 use Rattle.graph.specs.Reach.{Within, Least}
 use Rattle.model.specs.Chart.{Chart}
 use Rattle.model.specs.Rollback.{uncut}
-use Rattle.values.specs.declared.RowState.TheVariants.{PassedOver}
-use Rattle.model.specs.Rows.{in_state, is_savepoint}
+use Rattle.model.specs.Rows.{is_savepoint}
 use Rattle.model.specs.Search.{has}
 use Rattle.model.specs.Sheets.{Lower}
 use Rattle.rows.specs.declared.row.Row.{Row}
-use Rattle.rows.specs.Arrows.{Drawn, forth, back, passed_preds}
+use Rattle.rows.specs.Arrows.{Drawn, forth, back}
 use Rattle.rows.specs.Columns.{columns, preds_of, Positive}
 use Rattle.rows.proofs.Columns.{row_past}
 use Rattle.rows.proofs.Leasts.{least_like}
@@ -69,8 +68,3 @@ module _ (rows : List Row) (lower : Lower (preds_of rows)) (positive : Positive 
 
   pub lower_cut : (c : Chart) → Lower (uncut c (columns rows))
   lower_cut c v w a = lower v w (cut_part c v w a)
-
-  -- those of passed-over rows
-  pub joins_passed : Joins (length rows) (back (passed_preds (columns rows)))
-  joins_passed =
-      joins_back (passed_preds (columns rows)) (λ j. has_cond (in_state (columns rows) PassedOver j) (preds_of rows j))

@@ -1,13 +1,13 @@
 -- A row read, written and added, as columns. Assumes nothing.
-use Rattle.std.proofs.Common.{◌≡◌, ℕ, ◌+◌, ◌-◌, ◌<◌, ◌≤◌, Bool, true, false, cond, eqb, ◌⊎◌, List, [], ◌∷◌, ◌++◌, length, get_or, set, Some, None, Option, sym, refl, ap, ◌∙◌, subst, inl, inr, ⊎_elim, arith, length-set, get_or-set_other, get_or-set_same}
+use Rattle.std.proofs.Common.{◌≡◌, ℕ, ◌+◌, ◌-◌, ◌<◌, ◌≤◌, Bool, true, false, cond, eqb, ◌⊎◌, List, [], ◌∷◌, ◌++◌, length, get_or, set, Option, sym, refl, ap, ◌∙◌, inl, inr, ⊎_elim, arith, length-set}
 use mathlib.Core.Path.{fun_ext}
 use denote.Ref.{Bor}
-use Rattle.std.specs.Option.{MatchOption, option_copied, unwrap_or}
-use Rattle.std.proofs.lemmas.Bool.Decides.{nat_tests, eqb_tells, leb_tells}
-use Rattle.std.proofs.lemmas.List.{get_or_past, get_or_push, get_or_append_left, length-append, length_push}
+use Rattle.std.specs.Option.{MatchOption, option_copied}
+use Rattle.std.proofs.lemmas.Bool.Decides.{eqb_tells, leb_tells}
+use Rattle.std.proofs.lemmas.List.{length_push}
 use Rattle.model.specs.Search.{at_put}
 use Rattle.rows.specs.declared.row.Row.{Row}
-use Rattle.rows.proofs.Numbered.{past, inside, unwrap_or-numbered}
+use Rattle.rows.proofs.Numbered.{past, inside, found, item_set, item_push}
 use Rattle.values.specs.declared.Entry.{Entry}
 use Rattle.values.specs.declared.RowState.{RowState}
 use Rattle.values.specs.declared.RowState.TheVariants.{Absent, Running}
@@ -29,8 +29,7 @@ row_inside rows k y h l e = inside no_row rows k y h l e
 -- a row looked up by its number
 pub row_found : (rows : List Row) (k : ℕ) (o : Option (Bor Row)) → option_copied o ≡ numbered rows k
     → MatchOption o (row_at rows k ≡ no_row) (λ y. y.now ≡ row_at rows k)
-row_found rows k None e = sym (unwrap_or-numbered rows k no_row) ∙ ap (λ q. unwrap_or q no_row) (sym e)
-row_found rows k (Some y) e = ap (λ q. unwrap_or q no_row) e ∙ unwrap_or-numbered rows k no_row
+row_found rows k o e = found no_row rows k o e
 
 -- the same, where rows are counted from 0
 pub row_index : (rows : List Row) (i : ℕ) (y : Row) → i < length rows → y ≡ get_or rows i y → y ≡ row_at rows (i + 1)
@@ -50,52 +49,11 @@ known_within rows k h =
 -- one row written
 pub row_set : (rows : List Row) (k : ℕ) (x : Row) → 0 < k → k ≤ length rows
     → row_at (set rows (k - 1) x) ≡ at_put (row_at rows) k x
-row_set rows k x h l = fun_ext (λ j. ⊎_elim (same j) (λ e. ⊎_elim (none j) (other j e.1) (eqb_tells j 0)) (eqb_tells j k))
-  where
-    same : (j : ℕ) → (eqb j k ≡ true) × (j ≡ k) → row_at (set rows (k - 1) x) j ≡ at_put (row_at rows) k x j
-    same j e =
-        let q : j ≡ k = e.1 in
-        let lt : k - 1 < length rows = omega arith in
-        let p : get_or (set rows (k - 1) x) (k - 1) no_row ≡ x = rw get_or-set_same in
-        grind (arith, nat_tests, p, q)
-
-    none : (j : ℕ) → (eqb j 0 ≡ true) × (j ≡ 0) → row_at (set rows (k - 1) x) j ≡ at_put (row_at rows) k x j
-    none j e = let z : j ≡ 0 = e.1 in grind (arith, nat_tests, z)
-
-    other : (j : ℕ) → (j ≡ k → ⊥) → (eqb j 0 ≡ false) × (j ≡ 0 → ⊥) → row_at (set rows (k - 1) x) j ≡ at_put (row_at rows) k x j
-    other j n z =
-        let ne : j - 1 ≡ k - 1 → ⊥ = λ s. n (let nz : j ≡ 0 → ⊥ = z.1 in omega arith) in
-        let p : get_or (set rows (k - 1) x) (j - 1) no_row ≡ get_or rows (j - 1) no_row = rw get_or-set_other in
-        grind (arith, nat_tests, p, n)
+row_set rows k x h l = item_set no_row rows k x h l
 
 -- one row more
-pub row_push : (rows : List Row) (x : Row) → row_at (rows ++ x ∷ []) ≡ at_put (row_at rows) (length rows + 1) x
-row_push rows x = fun_ext (λ j. ⊎_elim (last j) (λ e. ⊎_elim (none j) (other j e.1) (eqb_tells j 0)) (eqb_tells j (length rows + 1)))
-  where
-    n : ℕ
-    n = length rows
-
-    last : (j : ℕ) → (eqb j (length rows + 1) ≡ true) × (j ≡ length rows + 1) → row_at (rows ++ x ∷ []) j ≡ at_put (row_at rows) (length rows + 1) x j
-    last j e =
-        let q : j ≡ length rows + 1 = e.1 in
-        let p : get_or (rows ++ x ∷ []) (j - 1) no_row ≡ x = get_or_push rows x no_row (j - 1) (omega (arith, q)) in
-        grind (arith, nat_tests, p, q)
-
-    none : (j : ℕ) → (eqb j 0 ≡ true) × (j ≡ 0) → row_at (rows ++ x ∷ []) j ≡ at_put (row_at rows) (length rows + 1) x j
-    none j e = let z : j ≡ 0 = e.1 in grind (arith, nat_tests, z)
-
-    past : (j : ℕ) → (j ≡ length rows + 1 → ⊥) → length rows < j → get_or (rows ++ x ∷ []) (j - 1) no_row ≡ get_or rows (j - 1) no_row
-    past j q h =
-        get_or_past (rows ++ x ∷ []) (j - 1) no_row (omega (arith, length-append rows (x ∷ [])))
-        ∙ sym (get_or_past rows (j - 1) no_row (omega arith))
-
-    other : (j : ℕ) → (j ≡ length rows + 1 → ⊥) → (eqb j 0 ≡ false) × (j ≡ 0 → ⊥) → row_at (rows ++ x ∷ []) j ≡ at_put (row_at rows) (length rows + 1) x j
-    other j q z =
-        let nz : j ≡ 0 → ⊥ = z.1 in
-        let p : get_or (rows ++ x ∷ []) (j - 1) no_row ≡ get_or rows (j - 1) no_row =
-        ⊎_elim (λ l. let h : j ≤ length rows = l.1 in get_or_append_left rows (x ∷ []) no_row (j - 1) (omega arith))
-        (λ l. past j q l.1) (leb_tells j (length rows)) in
-        grind (arith, nat_tests, p, q)
+row_push : (rows : List Row) (x : Row) → row_at (rows ++ x ∷ []) ≡ at_put (row_at rows) (length rows + 1) x
+row_push rows x = item_push no_row rows x
 
 -- a column of what rows hold: the row written holds y there
 pub column_put : {B : Type 0} (f : Row → B) (g : ℕ → Row) (k : ℕ) (x : Row) → ◌≡◌ {A = ℕ → B} (λ j. f (at_put g k x j)) (at_put (λ j. f (g j)) k (f x))
@@ -124,37 +82,41 @@ module _ (rows : List Row) (k : ℕ) (y : Row) (to : RowState) (low : 0 < k) (hi
   kept : {B : Type 0} (f : Row → B) → f (turned y to) ≡ f y → ◌≡◌ {A = ℕ → B} (λ j. f (row_at (set rows (k - 1) (turned y to)) j)) (λ j. f (row_at rows j))
   kept f e = ap (λ g j. f (g j)) same_row ∙ column_kept f (row_at rows) k (turned y to) (e ∙ ap f is)
 
+  -- the predecessors stay
+  pub preds_marked : preds_of (set rows (k - 1) (turned y to)) ≡ preds_of rows
+  preds_marked = kept (λ r. r.predecessors.items) refl
+
+  pub states_marked : ◌≡◌ {A = ℕ → RowState} (λ j. (row_at (set rows (k - 1) (turned y to)) j).state) (at_put (λ j. (row_at rows j).state) k to)
+  states_marked = ap (λ g j. (g j).state) same_row ∙ column_put (λ r. r.state) (row_at rows) k (turned y to)
+
   pub columns_marked : columns (set rows (k - 1) (turned y to)) ≡ marked (columns rows) k to
   columns_marked = λ i. record {
     count = length-set rows (k - 1) (turned y to) i;
     step = kept (λ r. r.step) refl i;
-    preds = kept (λ r. r.predecessors.items) refl i;
+    preds = preds_marked i;
     entry = kept (λ r. r.entry) refl i;
-    state = (ap (λ g j. (g j).state) same_row ∙ column_put (λ r. r.state) (row_at rows) k (turned y to)) i;
+    state = states_marked i;
   }
 
   pub rolled_marked : ◌≡◌ {A = ℕ → ℕ} (λ j. (row_at (set rows (k - 1) (turned y to)) j).rolled) (λ j. (row_at rows j).rolled)
   rolled_marked = kept (λ r. r.rolled) refl
-
-  pub lower_marked : Lower (preds_of rows) → Lower (preds_of (set rows (k - 1) (turned y to)))
-  lower_marked h = subst Lower (sym (kept (λ r. r.predecessors.items) refl)) h
-
-  pub positive_marked : Positive (preds_of rows) → Positive (preds_of (set rows (k - 1) (turned y to)))
-  positive_marked h = subst Positive (sym (kept (λ r. r.predecessors.items) refl)) h
 
 abbrev pub opened : ℕ → ArrayVec ℕ → Entry → Row
 opened step ps e = record { step = step; predecessors = ps; entry = e; state = Running; rolled = 0 }
 
 -- one row added
 module _ (rows : List Row) (step : ℕ) (ps : ArrayVec ℕ) (fs : List ℕ) (e : Entry) (is : ps.items ≡ fs) where
-  abbrev more : List Row
+  abbrev pub more : List Row
   more = rows ++ opened step ps e ∷ []
 
   grown : {B : Type 0} (f : Row → B) → ◌≡◌ {A = ℕ → B} (λ j. f (row_at more j)) (at_put (λ j. f (row_at rows j)) (length rows + 1) (f (opened step ps e)))
   grown f = ap (λ g j. f (g j)) (row_push rows (opened step ps e)) ∙ column_put f (row_at rows) (length rows + 1) (opened step ps e)
 
-  preds_grown : preds_of more ≡ at_put (preds_of rows) (length rows + 1) fs
+  pub preds_grown : preds_of more ≡ at_put (preds_of rows) (length rows + 1) fs
   preds_grown = grown (λ r. r.predecessors.items) ∙ ap (at_put (preds_of rows) (length rows + 1)) is
+
+  pub states_grown : ◌≡◌ {A = ℕ → RowState} (λ j. (row_at more j).state) (at_put (λ j. (row_at rows j).state) (length rows + 1) Running)
+  states_grown = grown (λ r. r.state)
 
   pub columns_added : columns more ≡ added (columns rows) step fs e
   columns_added = λ i. record {
@@ -162,7 +124,7 @@ module _ (rows : List Row) (step : ℕ) (ps : ArrayVec ℕ) (fs : List ℕ) (e :
     step = grown (λ r. r.step) i;
     preds = preds_grown i;
     entry = grown (λ r. r.entry) i;
-    state = grown (λ r. r.state) i;
+    state = states_grown i;
   }
 
   pub rolled_added : ◌≡◌ {A = ℕ → ℕ} (λ j. (row_at more j).rolled) (λ j. (row_at rows j).rolled)
@@ -171,11 +133,14 @@ module _ (rows : List Row) (step : ℕ) (ps : ArrayVec ℕ) (fs : List ℕ) (e :
       ∙ column_kept (λ r. r.rolled) (row_at rows) (length rows + 1) (opened step ps e)
       (ap (λ r. r.rolled) (row_past rows (length rows + 1) (inr (omega arith))))
 
-  pub positive_added : Positive (preds_of rows) → ((x : ℕ) → has x fs ≡ true → 1 ≤ x) → Positive (preds_of more)
-  positive_added h up = subst Positive (sym preds_grown)
-      (put_all (λ _ xs. (x : ℕ) → has x xs ≡ true → 1 ≤ x) (preds_of rows) (length rows + 1) fs h up)
+-- what holds of each row's predecessors, where a row is added
+module _ (rows : List Row) (fs : List ℕ) where
+  pub positive_added : Positive (preds_of rows) → ((x : ℕ) → has x fs ≡ true → 1 ≤ x)
+      → Positive (at_put (preds_of rows) (length rows + 1) fs)
+  positive_added h up = put_all (λ _ xs. (x : ℕ) → has x xs ≡ true → 1 ≤ x) (preds_of rows) (length rows + 1) fs h up
 
-  pub lower_added : Lower (preds_of rows) → ((x : ℕ) → has x fs ≡ true → x ≤ length rows) → Lower (preds_of more)
-  lower_added h up = subst Lower (sym preds_grown)
-      (put_all (λ v xs. (x : ℕ) → has x xs ≡ true → x < v) (preds_of rows) (length rows + 1) fs h
-      (λ x m. let l = up x m in omega arith))
+  pub lower_added : Lower (preds_of rows) → ((x : ℕ) → has x fs ≡ true → x ≤ length rows)
+      → Lower (at_put (preds_of rows) (length rows + 1) fs)
+  lower_added h up =
+      put_all (λ v xs. (x : ℕ) → has x xs ≡ true → x < v) (preds_of rows) (length rows + 1) fs h
+      (λ x m. let l = up x m in omega arith)

@@ -6,9 +6,8 @@ use Rattle.std.proofs.lemmas.Bool.{cases_Bool, ltb-false, lt-ltb, le-ltb, eqb-tr
 use Rattle.process.specs.declared.parts.Step.{Step}
 use Rattle.model.specs.Search.{at_put}
 use Rattle.model.specs.Rows.{with_states}
-use Rattle.model.specs.Sheets.{Lower}
 use Rattle.rows.specs.declared.row.Row.{Row}
-use Rattle.rows.specs.Columns.{no_row, row_at, row_fallen, preds_of, columns, Positive}
+use Rattle.rows.specs.Columns.{no_row, row_at, row_fallen, preds_of, columns}
 use Rattle.rows.proofs.Columns.{row_past, row_set}
 
 module _ (steps : List Step) (mark : ℕ → Bool) (number : ℕ) where
@@ -63,6 +62,11 @@ module _ (steps : List Step) (mark : ℕ → Bool) (number : ℕ) where
         subst (λ k. row_at (set now k x) ≡ partly old (i + 1)) e
         (row_set now (i + 1) x (omega arith) (omega arith) ∙ fun_ext next)
 
+  -- rows that fell where they were lent
+  pub fell_lent : (rows lent new : List Row) → lent ≡ rows → length new ≡ length lent → row_at new ≡ fell lent
+      → (length new ≡ length rows) × (row_at new ≡ fell rows)
+  fell_lent rows lent new same long falls = (long ∙ ap length same, falls ∙ ap {B = ℕ → Row} fell same)
+
   -- the columns of a table whose rows have fallen
   module _ (rows new : List Row) (long : length new ≡ length rows) (falls : row_at new ≡ fell rows) where
     pub columns_fell : columns new ≡ with_states (columns rows) (λ k. (fell rows k).state)
@@ -74,11 +78,6 @@ module _ (steps : List Step) (mark : ℕ → Bool) (number : ℕ) where
       state = λ k. (falls i k).state;
     }
 
-    preds_fell : preds_of new ≡ preds_of rows
+    -- the predecessors stay
+    pub preds_fell : preds_of new ≡ preds_of rows
     preds_fell = λ i k. (falls i k).predecessors.items
-
-    pub lower_fell : Lower (preds_of rows) → Lower (preds_of new)
-    lower_fell h = subst Lower (sym preds_fell) h
-
-    pub positive_fell : Positive (preds_of rows) → Positive (preds_of new)
-    positive_fell h = subst Positive (sym preds_fell) h

@@ -2,10 +2,13 @@ pub mod Aborts
 pub mod Arrows
 pub mod Below
 pub mod Columns
+pub mod Dues
 pub mod Falls
+pub mod Followers
 pub mod Later
 pub mod Leasts
 pub mod Links
+pub mod LinkSets
 pub mod Lists
 pub mod Numbered
 pub mod Passing

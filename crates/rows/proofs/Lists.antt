@@ -1,6 +1,8 @@
 -- A list searched from its front. Assumes nothing.
-use Rattle.std.proofs.Common.{◌≡◌, ℕ, zero, suc, ◌<◌, Bool, true, ◌&&◌, List, [], ◌∷◌, length, get_or, filter, refl, ap, inl, inr, arith}
+use Rattle.std.proofs.Common.{◌≡◌, ℕ, zero, suc, ◌+◌, ◌<◌, Bool, true, ◌&&◌, ◌||◌, false, List, [], ◌∷◌, ◌++◌, length, get_or, take, filter, sym, refl, ap, ◌∙◌, inl, inr, arith}
 use Rattle.std.proofs.lemmas.Bool.{cases_eq, eq-eqb, ne_eqb, or_left, or_right}
+use Rattle.std.proofs.lemmas.List.{take_more}
+use Rattle.std.proofs.Math.Bool.{or_comm, or_assoc}
 use Rattle.model.specs.Search.{any, has}
 
 -- one that passes
@@ -19,3 +21,12 @@ has_kept p k (x ∷ xs) =
       | inl e ↦ let same = ap p e in let met = eq-eqb k x e in grind arith
       | inr n ↦ let not_met = ne_eqb k x n in grind arith
     ]
+
+-- one element more
+any_push : (p : ℕ → Bool) (xs : List ℕ) (x : ℕ) → any p (xs ++ x ∷ []) ≡ (any p xs || p x)
+any_push p [] x = or_comm (p x) false
+any_push p (y ∷ ys) x = ap (λ b. p y || b) (any_push p ys x) ∙ sym (or_assoc (p y) (any p ys) (p x))
+
+pub any_more : (p : ℕ → Bool) (xs : List ℕ) (i : ℕ) → i < length xs
+    → any p (take (i + 1) xs) ≡ (any p (take i xs) || p (get_or xs i 0))
+any_more p xs i h = ap (any p) (take_more xs i 0 h) ∙ any_push p (take i xs) (get_or xs i 0)

@@ -1,26 +1,12 @@
 -- An array that has each number that passes a test at its place: how it is written, and a walk that starts from it. Assumes nothing.
-use Rattle.std.proofs.Common.{◌≡◌, ℕ, zero, suc, ◌+◌, ◌-◌, ◌<◌, ◌≤◌, Bool, true, cond, List, get_or, sym, ap, ◌∙◌, subst, inl, inr, arith}
+use Rattle.std.proofs.Common.{◌≡◌, ℕ, ◌+◌, ◌-◌, ◌<◌, ◌≤◌, Bool, true, cond, List, sym, ap, ◌∙◌, inl, inr, arith}
 use denote.Param.Members.{Mut}
-use Rattle.std.specs.Array.{IsFromFnResult, IsFromFnResultFrom}
+use Rattle.std.specs.Array.{IsFromFnResult}
 use Rattle.std.specs.Fn.{Called}
-use Rattle.std.proofs.lemmas.Bool.{cases_eq, cases_Bool, cond-true, cond-false}
+use Rattle.std.proofs.lemmas.Bool.{cases_Bool, cond-true, cond-false}
 use Rattle.graph.specs.Reach.{Within, Start}
+use Rattle.rowset.proofs.Arrays.{filled}
 use Rattle.rows.specs.Marking.{Passing}
-
--- an array filled by calls that leave the closure as it was
-pub filled : {F : Type 0} {g : Mut F (ℕ × Unit {0}) ℕ} {f : F} {xs : List ℕ} {n : ℕ} (P : ℕ → ℕ → Type 0)
-    → IsFromFnResult g f xs n → ((i y : ℕ) (e : F) → i < n → Called g f (i, tt) y e → (e ≡ f) × P i y)
-    → (i : ℕ) → i < n → P i (get_or xs i 0)
-filled {F} {g} {f} {xs} {n} P is tells = λ i. go 0 n (omega arith) is.each i (omega arith)
-  where
-    go : (a m : ℕ) → a + m ≡ n → IsFromFnResultFrom g f xs a m → (i : ℕ) → a ≤ i → i < n → P i (get_or xs i 0)
-    go a zero e h i l u = absurd (omega arith)
-    go a (suc m) e (q, y, at, called, more) i l u =
-        let (same, here) = tells a y q (omega arith) called in
-        elim (cases_eq i a) [
-          | inl s ↦ subst (λ k. P k (get_or xs k 0)) (sym s) (subst (P a) (sym (at.1 0)) here)
-          | inr ne ↦ go (a + 1) m (omega arith) (subst (λ k. IsFromFnResultFrom g k xs (a + 1) m) same more) i (omega arith) u
-        ]
 
 pub passing : {F : Type 0} {g : Mut F (ℕ × Unit {0}) ℕ} {f : F} {xs : List ℕ} (p : ℕ → Bool)
     → IsFromFnResult g f xs 256 → ((i y : ℕ) (e : F) → i < 256 → Called g f (i, tt) y e → (e ≡ f) × (y ≡ cond (p (i + 1)) (i + 1) 0))

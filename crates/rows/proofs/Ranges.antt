@@ -1,5 +1,4 @@
--- What `any` and `find` answer over a range of numbers, and `any` and `all` over a list, in the words of the model. Assumes
--- nothing.
+-- What `any` and `find` answer over a range of numbers, and `all` over a list, in the words of the model. Assumes nothing.
 use Rattle.std.proofs.Common.{◌≡◌, ℕ, zero, suc, ◌+◌, ◌-◌, ◌<◌, ◌≤◌, Bool, true, false, not, ◌||◌, List, [], ◌∷◌, Some, None, Option, sym, refl, ap, ◌∙◌, ap₂, inl, inr, arith}
 use denote.Param.Members.{Mut}
 use denote.Ref.{Bor}
@@ -18,10 +17,6 @@ use Rattle.model.proofs.Basics.{any_below_in}
 use Rattle.rows.proofs.Below.{any_below_none, first_none, first_is}
 
 -- ── lists ──
-
-pub any_list : {X : Type 0} (p : X → Bool) (xs : List X) → list_any p xs ≡ any p xs
-any_list p [] = refl
-any_list p (x ∷ xs) = ap (λ b. p x || b) (any_list p xs)
 
 pub all_list : {X : Type 0} (p : X → Bool) (xs : List X) → list_all p xs ≡ not (any (λ x. not (p x)) xs)
 all_list p [] = refl

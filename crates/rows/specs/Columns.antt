@@ -17,6 +17,10 @@ no_row = record { step = 0; predecessors = record { items = [] }; entry = no_ent
 abbrev pub numbered : {X : Type 0} → List X → ℕ → Option X
 numbered xs k = cond (k == 0) None (slice_get xs (k - 1))
 
+-- the same, or another where there is none
+abbrev pub item_at : {X : Type 0} → X → List X → ℕ → X
+item_at none xs k = cond (k == 0) none (slice_index_or xs (k - 1) none)
+
 -- row k, counted from 1
 abbrev pub row_at : List Row → ℕ → Row
 row_at rows k = cond (k == 0) no_row (slice_index_or rows (k - 1) no_row)

@@ -1,6 +1,8 @@
 -- What the contracts of this crate cite.
 pub mod Arrows
 pub mod Columns
+pub mod Followers
+pub mod Linked
 pub mod Marking
 pub mod Steps
 pub mod Tables

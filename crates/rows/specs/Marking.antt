@@ -8,7 +8,7 @@ use Rattle.graph.specs.Scratch.{SameLoans, Untouched}
 use Rattle.graph.specs.declared.scratch.Scratch.{Scratch}
 use Rattle.model.specs.Calls.{lowest_row}
 use Rattle.model.specs.Chart.{Chart}
-use Rattle.model.specs.Rollback.{after, backward, linked, strikes}
+use Rattle.model.specs.Rollback.{after, backward, strikes}
 use Rattle.model.specs.Rows.{Rows, in_state}
 use Rattle.model.specs.Search.{any_below}
 
@@ -34,10 +34,6 @@ BackwardMarked c r f xs = (u : ℕ) → marked xs u ≡ backward c r f u
 -- the backward part of f is marked, with all that is after it
 abbrev pub PartMarked : Chart → Rows → ℕ → List ℕ → Type 0
 PartMarked c r f xs = (k : ℕ) → marked xs k ≡ (backward c r f k || after r (backward c r f) k)
-
--- the rows are marked from which a path leads to v with only passed-over rows between
-abbrev pub LinksMarked : Rows → ℕ → List ℕ → Type 0
-LinksMarked r v xs = (u : ℕ) → marked xs u ≡ linked r u v
 
 -- the committed rows that are marked are those that the abort strikes
 abbrev pub StruckMarked : Chart → Rows → Mode → List ℕ → Type 0

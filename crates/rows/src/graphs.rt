@@ -102,10 +102,7 @@ impl Arrows for Forth {
     ghost leads = { λ _ r. forth r.preds };
 
     fn next(&self, table: &RowTable, from: u16, after: u16) -> Option<u16> {
-        // a row has a higher number than those that it follows
-        table
-            .above(from.max(after))
-            .find(|&k| table.predecessors(k).contains(&from))
+        table.next_follower(from, after)
     }
 }
 

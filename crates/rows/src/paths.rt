@@ -1,16 +1,19 @@
 // Questions on the paths between rows.
-ghost use Rattle.std.specs.Prelude.{◌≡◌, not, ◌||◌};
+ghost use Rattle.std.specs.Prelude.{◌≡◌, ℕ, ◌<◌, ◌≤◌, true, not, ◌||◌};
 ghost use Rattle.graph.specs.Held.{held};
 ghost use Rattle.graph.specs.Scratch.{roomy_in};
 ghost use Rattle.model.specs.Calls.{due_after};
-ghost use Rattle.rows.specs.Marking.{Walked, LinksMarked, due_above, lowest_due};
+ghost use Rattle.rows.specs.Marking.{Walked, due_above, lowest_due};
+ghost use Rattle.rows.specs.Linked.{HasLinks, brings, links_at};
+ghost use Rattle.rowset.specs.Members.{is_number, contains};
 ghost use Rattle.rows.specs.Tables.{rows_of};
 
-use crate::graphs::{BackOverPassed, Forth};
+use crate::graphs::Forth;
 use crate::table::RowTable;
 use graph::marks::Marks;
 use graph::reach::NoRoom;
 use graph::scratch::Scratch;
+use rowset::RowSet;
 use values::RowState;
 
 impl RowTable {
@@ -18,7 +21,7 @@ impl RowTable {
     fn any_due_above(&self, row: u16) -> bool
         ensures { result ≡ due_above (rows_of self.now) row }
     {
-        self.above(row).any(|k| self.is_in(RowState::Due, k))
+        self.next_due(row).is_some()
     }
 
     /// The lowest row above this one that is due and marked.
@@ -42,12 +45,38 @@ impl RowTable {
         Ok(self.lowest_due(row, scratch.marks))
     }
 
-    /// Marks the rows from which a path leads to this one with only passed-over rows between.
-    pub fn links_to(&self, row: u16, scratch: &mut Scratch) -> Result<(), NoRoom>
-        ensures { Walked result (roomy_in (rows_of self.now).count scratch.old)
-            (λ _. LinksMarked (rows_of self.now) row (held scratch.new.marks.now)) scratch.old scratch.new }
+    /// Adds a row, and if it is passed over what is linked to it.
+    fn add_links(&self, row: u16, known: &[RowSet; 257], links: &mut RowSet)
+        requires row { is_number row ≡ true }
+        requires known { HasLinks (rows_of self.now) row (links_at known.now row) }
+        ensures { (u : ℕ) → contains links.new u ≡ (contains links.old u || brings (rows_of self.now) row u) }
     {
-        let starts = self.predecessors(row);
-        self.walk(BackOverPassed, starts, scratch)
+        links.insert(row);
+        if self.is_in(RowState::PassedOver, row) {
+            links.join(&known[row as usize]);
+        }
+    }
+
+    /// The rows linked to a row, where those linked to each lower row are known.
+    fn links_of(&self, row: u16, known: &[RowSet; 257]) -> RowSet
+        requires { (q : ℕ) → q < row → HasLinks (rows_of self.now) q (links_at known.now q) }
+        ensures { HasLinks (rows_of self.now) row result }
+    {
+        let mut links = RowSet::new();
+        for before in self.predecessors(row) {
+            self.add_links(*before, known, &mut links);
+        }
+        links
+    }
+
+    /// The rows linked to each row, by its number.
+    pub fn links(&self) -> [RowSet; 257]
+        ensures { (v : ℕ) → v ≤ (rows_of self.now).count → HasLinks (rows_of self.now) v (links_at result v) }
+    {
+        let mut links = [RowSet::new(); 257];
+        for row in 0..self.len() + 1 {
+            links[row as usize] = self.links_of(row, &links);
+        }
+        links
     }
 }

@@ -1,9 +1,11 @@
 // The table of a sheet's rows.
-ghost use Rattle.std.specs.Prelude.{◌≡◌, ◌≤◌, vec_len, vec_capacity};
+ghost use Rattle.std.specs.Prelude.{◌≤◌, vec_len, vec_capacity};
 ghost use Rattle.model.specs.Sheets.{Lower};
 ghost use Rattle.rows.specs.Columns.{preds_of, Positive};
+ghost use Rattle.rows.specs.Followers.{Tell, Tell-prop};
 
 use crate::row::Row;
+use rowset::RowSet;
 
 mod falls;
 mod reads;
@@ -17,12 +19,21 @@ const MOST_ROWS: usize = 256;
 #[derive(Clone, Copy, PartialEq, Eq, Debug, Drop)]
 pub struct Unfit;
 
-/// The rows of a sheet, numbered from 1.
+/// The sets that searches of a table's rows go through: the followers of each row by one arrow, and the due rows.
+#[derive(Drop)]
+struct Sets {
+    followers: Vec<RowSet>,
+    due: RowSet,
+}
+
+/// The rows of a sheet, numbered from 1, and sets of them.
 #[derive(Drop)]
 pub struct RowTable {
     rows: Vec<Row>,
+    sets: Sets,
     ghost lower: { Lower (preds_of rows.items) },
     ghost positive: { Positive (preds_of rows.items) },
     ghost few: { vec_len rows ≤ 256 },
     ghost reserved: { 256 ≤ vec_capacity rows },
+    ghost told: { Tell sets rows.items } by { Tell-prop sets rows.items },
 }

@@ -1,17 +1,17 @@
 -- A field that is set in place: in a word, in bytes, and among the fields of a reply. Assumes nothing.
-use Rattle.std.proofs.Common.{◌≡◌, ℕ, zero, suc, ◌+◌, ◌-◌, ◌*◌, ◌/◌, ◌%◌, ◌^◌, ◌<◌, ◌≤◌, List, [], ◌∷◌, ◌++◌, length, get_or, take, drop, set, replicate, sym, refl, ap, ◌∙◌, subst, ap₂, mul_assoc, mul_comm, add-one, append_assoc, arith}
+use Rattle.std.proofs.Common.{◌≡◌, ℕ, zero, suc, ◌+◌, ◌-◌, ◌*◌, ◌/◌, ◌%◌, ◌^◌, ◌<◌, ◌≤◌, List, [], ◌∷◌, ◌++◌, length, get_or, take, drop, set, replicate, sym, refl, ap, ◌∙◌, subst, ap₂, mul_assoc, mul_comm, add-one, append_assoc, lit<, arith}
 use native.Mathlib.Nat.{mul-add-mod_self_right}
 use Rattle.std.proofs.lemmas.Nat.{pow-add, pow_pos, shr-shr, shr_high, mod_below, shr_below, shl_whole, one_shl, mul-add-lt, field_of}
 use Rattle.std.proofs.lemmas.List.{length-take-le, drop-set-lt, set-get_or, get_or-drop, length-replicate, replicate-append-replicate}
 use Rattle.values.specs.Numbers.{phase_number}
 use Rattle.process.specs.Bits.{total, pack, field, unpack}
 use Rattle.process.proofs.Packing.{total_same, total_append, pack_append, above, joined, field_within, put_is, unpack_put}
-use Rattle.model.specs.Chart.{Chart}
-use Rattle.model.specs.Sheet.{Sheet}
 use Rattle.model.specs.Replies.{fields_of}
 use Rattle.model.specs.Report.{reply_widths, reply_bytes}
 use Rattle.model.proofs.Replying.{phase_small}
-use Rattle.sheet.specs.Fields.{number_of, Sets, SetsStep, fields_with}
+use Rattle.sheet.specs.declared.sheets.Sheet.{Sheet}
+use Rattle.sheet.specs.Fields.{number_of, Sets, SetsStep, ShowsNow, fields_with}
+use Rattle.sheet.specs.SheetOf.{chart_of}
 
 -- ── a word ──
 
@@ -24,7 +24,8 @@ stays_word low width n m v narrow small word e =
     let n_word : n < 2 ^ (rest + width + low) = subst (λ k. n < 2 ^ k) (sym whole) word in
     let high = shr_below (n / 2 ^ low) rest width (shr_below n (rest + width) low n_word) in
     let mid = mul-add-lt (above low width n) (2 ^ width) v (2 ^ rest) high small in
-    let all = mul-add-lt (above low width n * 2 ^ width + v) (2 ^ low) (n % 2 ^ low) (2 ^ width * 2 ^ rest) mid (mod_below n (2 ^ low) (pow_pos low)) in
+    let below = mod_below n (2 ^ low) (pow_pos low) in
+    let all = mul-add-lt (above low width n * 2 ^ width + v) (2 ^ low) (n % 2 ^ low) (2 ^ width * 2 ^ rest) mid below in
     let is = put_is low width n m v e in
     let size : 2 ^ low * (2 ^ width * 2 ^ rest) ≡ 2 ^ 16 =
     mul_comm (2 ^ low) (2 ^ width * 2 ^ rest) ∙ ap (λ k. k * 2 ^ low) (mul_comm (2 ^ width) (2 ^ rest) ∙ sym (pow-add 2 rest width))
@@ -90,7 +91,8 @@ number_by_word : (i r : ℕ) (xs : List ℕ) (x y : ℕ) → suc i < length xs
     ≡ joined (total (replicate r 8)) 16 (pack (replicate i 8) (take i xs)) (x * 2 ^ 8 + y) (pack (replicate r 8) (drop (suc (suc i)) xs))
 number_by_word i r xs x y l =
     let t = total (replicate r 8) in
-    let size : length (take i xs) ≡ length (replicate i 8) = length-take-le i xs (omega arith) ∙ sym (length-replicate {A = ℕ} i 8) in
+    let size : length (take i xs) ≡ length (replicate {A = ℕ} i 8) =
+    length-take-le i xs (omega arith) ∙ sym (length-replicate {A = ℕ} i 8) in
     let power : 2 ^ total (8 ∷ 8 ∷ replicate {A = ℕ} r 8) ≡ 2 ^ 8 * (2 ^ 8 * 2 ^ t) =
     pow-add 2 8 (8 + t) ∙ ap (λ k. 2 ^ 8 * k) (pow-add 2 8 t) in
     ap₂ (λ ws vs. pack ws vs) (sym (replicate-append-replicate i (suc (suc r)) 8)) (set_two i xs x y l)
@@ -98,8 +100,8 @@ number_by_word i r xs x y l =
     ∙ rw (power, pow-add 2 8 t) (omega arith)
 
 -- two bytes written, whose word has another value in a field
-pub bits_in_bytes : (n i r low width v : ℕ) (xs : List ℕ) (x y : ℕ) → n ≡ i + suc (suc r) → n ≤ length xs → ((k : ℕ) → get_or xs k 0 < 256)
-    → low + width ≤ 16
+bits_in_bytes : (n i r low width v : ℕ) (xs : List ℕ) (x y : ℕ) → n ≡ i + suc (suc r) → n ≤ length xs
+    → ((k : ℕ) → get_or xs k 0 < 256) → low + width ≤ 16
     → x * 2 ^ 8 + y + field low width (get_or xs i 0 * 2 ^ 8 + get_or xs (suc i) 0) * 2 ^ low
     ≡ get_or xs i 0 * 2 ^ 8 + get_or xs (suc i) 0 + v * 2 ^ low
     → pack (replicate n 8) (set (set xs i x) (suc i) y) + field (r * 8 + low) width (pack (replicate n 8) xs) * 2 ^ (r * 8 + low)
@@ -132,7 +134,8 @@ sets_bits i r low width v place word word' xs x y size long small narrow is had 
 
 -- ── the fields of a reply ──
 
-step_widths : (j r : ℕ) → 64 ≡ j + suc r → reply_widths ≡ (8 ∷ 2 ∷ 6 ∷ 16 ∷ replicate j 3) ++ 3 ∷ (replicate r 3 ++ 32 ∷ [])
+step_widths : (j r : ℕ) → 64 ≡ j + suc r
+    → reply_widths ≡ (8 ∷ 2 ∷ 6 ∷ 16 ∷ replicate j 3) ++ 3 ∷ (replicate r 3 ++ 32 ∷ [])
 step_widths j r e =
     ap (λ ws. 8 ∷ 2 ∷ 6 ∷ 16 ∷ (ws ++ 32 ∷ [])) (ap (λ n. replicate n 3) e ∙ sym (replicate-append-replicate j (suc r) 3))
     ∙ ap (λ ws. 8 ∷ 2 ∷ 6 ∷ 16 ∷ ws) (append_assoc (replicate j 3) (3 ∷ replicate r 3) (32 ∷ []))
@@ -146,34 +149,43 @@ sets_one ws us width v before after small e s =
     ∙ unpack_put ws us width (pack reply_bytes before) (pack reply_bytes after) v small s.bits
     ∙ ap (λ all. set (unpack all (pack reply_bytes before)) (length ws) v) (sym e)
 
-pub sets_step : (k v : ℕ) (before after : List ℕ) → 1 ≤ k → k ≤ 64 → v < 8 → Sets (256 - (29 + 3 * k + 3)) 3 v before after
-    → SetsStep k v before after
+pub sets_step : (k v : ℕ) (before after : List ℕ) → 1 ≤ k → k ≤ 64 → v < 8
+    → Sets (256 - (32 + 3 * (k - 1) + 3)) 3 v before after → SetsStep k v before after
 sets_step k v before after low high small s =
     let r = 64 - k in
-    let t : 256 - (29 + 3 * k + 3) ≡ total (replicate r 3 ++ 32 ∷ []) =
-    (let sum = total_append (replicate r 3) (32 ∷ []) in let steps = total_same r 3 in omega arith) in
-    let place : length (8 ∷ 2 ∷ 6 ∷ 16 ∷ replicate {A = ℕ} (k - 1) 3) ≡ k + 3 = omega (arith, length-replicate {A = ℕ} (k - 1) 3) in
+    let first = 8 ∷ 2 ∷ 6 ∷ 16 ∷ replicate {A = ℕ} (k - 1) 3 in
+    let below : 256 - (32 + 3 * (k - 1) + 3) ≡ total (replicate r 3 ++ 32 ∷ []) =
+    (let all = total_append (replicate r 3) (32 ∷ []) in let steps = total_same r 3 in omega arith) in
+    let place : length first ≡ k + 3 = omega (arith, length-replicate {A = ℕ} (k - 1) 3) in
     record {
-      fields = sets_one (8 ∷ 2 ∷ 6 ∷ 16 ∷ replicate (k - 1) 3) (replicate r 3 ++ 32 ∷ []) 3 v before after small
-          (step_widths (k - 1) r (omega arith)) (subst (λ low. Sets low 3 v before after) t s)
+      fields = sets_one first (replicate r 3 ++ 32 ∷ []) 3 v before after small (step_widths (k - 1) r (omega arith))
+          (subst (λ low. Sets low 3 v before after) below s)
           ∙ ap (λ i. set (fields_of before) i v) place;
       rest = s.rest;
     }
 
+few_less : (n : ℕ) → n ≤ 64 → n - 1 < 2 ^ 6
+few_less n h = omega arith
+
 -- the fields before those of the steps, set over zeros
-pub sets_front : (c : Chart) (s : Sheet) (before zeros b d e f : List ℕ) → zeros ≡ replicate (length (take 32 before)) 0
-    → 32 ≤ length before → length c.0 ≤ 64 → s.rollback < 2 ^ 16 → Sets 248 8 1 (zeros ++ drop 32 before) b → Sets 246 2 (phase_number s.phase) b d → Sets 240 6 (length c.0 - 1) d e
-    → Sets 224 16 s.rollback e f → (fields_of f ≡ fields_with c s (λ _. 0)) × (drop 32 f ≡ drop 32 before)
+pub sets_front : (x : Sheet) (before zeros a b d after : List ℕ) → zeros ≡ replicate (length (take 32 before)) 0
+    → 32 ≤ length before → length (chart_of x).0 ≤ 64 → x.rollback < 2 ^ 16
+    → Sets 248 8 1 (zeros ++ drop 32 before) a → Sets 246 2 (phase_number x.phase) a b
+    → Sets 240 6 (length (chart_of x).0 - 1) b d → Sets 224 16 x.rollback d after
+    → ShowsNow x (λ _. 0) before after
 unfolding fields_with
-sets_front c s before zeros b d e f are long few small form phase steps rollback =
-    let w = replicate 64 3 ++ 32 ∷ [] in
-    let is : zeros ≡ replicate 32 0 = are ∙ ap (λ n. replicate n 0) (length-take-le 32 before long) in
-    let start : zeros ++ drop 32 before ≡ replicate 32 0 ++ drop 32 before = ap (λ xs. xs ++ drop 32 before) is in
+sets_front x before zeros a b d after are long few small form phase steps rollback =
+    let ws = replicate 64 3 ++ 32 ∷ [] in
+    let start : zeros ++ drop 32 before ≡ replicate 32 0 ++ drop 32 before =
+    ap (λ xs. xs ++ drop 32 before) (are ∙ ap (λ n. replicate n 0) (length-take-le 32 before long)) in
     let blank : fields_of (zeros ++ drop 32 before) ≡ 0 ∷ 0 ∷ 0 ∷ 0 ∷ replicate 65 0 = ap fields_of start in
-    let one = sets_one [] (2 ∷ 6 ∷ 16 ∷ w) 8 1 (zeros ++ drop 32 before) b (omega arith) refl form in
-    let two = sets_one (8 ∷ []) (6 ∷ 16 ∷ w) 2 (phase_number s.phase) b d (phase_small s.phase) refl phase in
-    let three = sets_one (8 ∷ 2 ∷ []) (16 ∷ w) 6 (length c.0 - 1) d e (omega arith) refl steps in
-    let four = sets_one (8 ∷ 2 ∷ 6 ∷ []) w 16 s.rollback e f small refl rollback in
-    (four ∙ ap (λ xs. set xs 3 s.rollback) (three ∙ ap (λ xs. set xs 2 (length c.0 - 1)) (two
-    ∙ ap (λ xs. set xs 1 (phase_number s.phase)) (one ∙ ap (λ xs. set xs 0 1) blank))),
-    rollback.rest ∙ steps.rest ∙ phase.rest ∙ form.rest ∙ ap (drop 32) start)
+    let steps_less = length (chart_of x).0 - 1 in
+    let one = sets_one [] (2 ∷ 6 ∷ 16 ∷ ws) 8 1 (zeros ++ drop 32 before) a (lit< tt) refl form in
+    let two = sets_one (8 ∷ []) (6 ∷ 16 ∷ ws) 2 (phase_number x.phase) a b (phase_small x.phase) refl phase in
+    let three = sets_one (8 ∷ 2 ∷ []) (16 ∷ ws) 6 steps_less b d (few_less (length (chart_of x).0) few) refl steps in
+    let four = sets_one (8 ∷ 2 ∷ 6 ∷ []) ws 16 x.rollback d after small refl rollback in
+    record {
+      reply = four ∙ ap (λ xs. set xs 3 x.rollback) (three ∙ ap (λ xs. set xs 2 steps_less) (two
+          ∙ ap (λ xs. set xs 1 (phase_number x.phase)) (one ∙ ap (λ xs. set xs 0 1) blank)));
+      rest = rollback.rest ∙ steps.rest ∙ phase.rest ∙ form.rest ∙ ap (drop 32) start;
+    }

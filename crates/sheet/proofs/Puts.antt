@@ -1,5 +1,5 @@
 -- Lists put into a table one after the other. Assumes nothing.
-use Rattle.std.proofs.Common.{◌≡◌, ℕ, zero, suc, ◌+◌, ◌*◌, ◌≤◌, Bool, true, false, List, [], ◌∷◌, ◌++◌, length, set, map, drop, refl, sym, ap, ◌∙◌, ap₂, inl, inr, add-one, add-zero, zero-add, arith, length-append}
+use Rattle.std.proofs.Common.{◌≡◌, ℕ, zero, suc, ◌+◌, ◌*◌, ◌<◌, ◌≤◌, Bool, true, false, List, [], ◌∷◌, ◌++◌, length, set, map, drop, refl, sym, ap, ◌∙◌, ap₂, inl, inr, add-one, add-zero, zero-add, arith, length-append}
 use Rattle.std.proofs.Math.Seq.{sets}
 use Rattle.std.proofs.lemmas.Bool.{cases_eq}
 use Rattle.std.proofs.lemmas.List.{append-nil, map-append}
@@ -51,13 +51,16 @@ pub length_only_if : {X : Type 0} (b : Bool) (x : X) → length (only_if b x) �
 length_only_if true x = omega arith
 length_only_if false x = omega arith
 
--- numbers from m on that give nothing
-pub each_lower : {X : Type 0} (f : ℕ → List X) (m n : ℕ) → m ≤ n → ((k : ℕ) → m ≤ k → f k ≡ []) → each_below n f ≡ each_below m f
+-- numbers that give nothing, from m on
+pub each_lower : {X : Type 0} (f : ℕ → List X) (m n : ℕ) → m ≤ n → ((k : ℕ) → m ≤ k → k < n → f k ≡ [])
+    → each_below n f ≡ each_below m f
 each_lower f m zero l none = let same : zero ≡ m = omega arith in ap (λ k. each_below k f) same
 each_lower f m (suc n) l none =
     elim (cases_eq m (suc n)) [
       | inl e ↦ ap (λ k. each_below k f) (sym e)
-      | inr ne ↦ ap₂ ◌++◌ (each_lower f m n (omega arith) none) (none n (omega arith)) ∙ append-nil (each_below m f)
+      | inr ne ↦
+          let below = each_lower f m n (omega arith) (λ k h u. none k h (omega arith)) in
+          ap₂ ◌++◌ below (none n (omega arith) (omega arith)) ∙ append-nil (each_below m f)
     ]
 
 pub map_each : {X : Type 0} (g : ℕ → X) (p : ℕ → Bool) (n : ℕ) → map g (all_below n p) ≡ each_below n (λ k. only_if (p k) (g k))

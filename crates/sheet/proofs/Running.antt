@@ -1,5 +1,5 @@
 -- A call bs the event that it is. Assumes nothing.
-use Rattle.std.proofs.Common.{◌≡◌, ℕ, List, length, Some, None, Option, Ok, Result, sym, refl, ap, ◌∙◌, subst, Vec}
+use Rattle.std.proofs.Common.{◌≡◌, ℕ, List, length, Some, None, Option, Result, sym, refl, ap, ◌∙◌, subst, Vec}
 use Rattle.std.specs.Vec.{with_items}
 use Rattle.std.proofs.lemmas.List.{with_items_is}
 use Rattle.values.specs.Checks.{answer, after}
@@ -11,7 +11,7 @@ use Rattle.host.specs.View.{View}
 use Rattle.model.specs.Calls.{reply_fault}
 use Rattle.model.specs.Chart.{Chart}
 use Rattle.model.specs.Report.{reply_of}
-use Rattle.model.specs.Run.{World, Lent, world, decide, column_after, over, written_at, scratched, listed, replied}
+use Rattle.model.specs.Run.{Lent, world, decide, column_after, over, written_at, scratched, listed, replied}
 use Rattle.model.specs.Sheet.{Sheet, graph_arrows}
 use Rattle.sheet.specs.Calls.{Comes}
 use Rattle.sheet.specs.Happenings.{told}

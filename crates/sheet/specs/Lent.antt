@@ -1,5 +1,5 @@
 -- The memory of a replay as calls are lent it. Assumes nothing.
-use Rattle.std.specs.Prelude.{ℕ, length, replicate, vec_items}
+use Rattle.std.specs.Prelude.{length, replicate, vec_items}
 use Rattle.model.specs.Run.{Lent}
 use Rattle.sheet.specs.declared.events.Sizes.{Sizes}
 use Rattle.sheet.specs.declared.memory.Memory.{Memory}

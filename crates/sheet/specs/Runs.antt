@@ -1,5 +1,5 @@
 -- A competition as a world of the model, and what an event or a list of events carries on. Assumes nothing.
-use Rattle.std.specs.Prelude.{◌≡◌, ℕ, List, [], ◌∷◌, ◌++◌}
+use Rattle.std.specs.Prelude.{◌≡◌, ℕ, ◌++◌}
 use Rattle.values.specs.declared.Answer.{Answer}
 use Rattle.host.specs.View.{View, Fresh, Sound}
 use Rattle.model.specs.Chart.{Chart}

@@ -1,11 +1,12 @@
 // The rows after an abort.
-ghost use Rattle.std.specs.Prelude.{◌≡◌, ℕ, Bool, cond, ◌&&◌, ◌||◌, [], length};
+ghost use Rattle.std.specs.Prelude.{◌≡◌, ℕ, Bool, ◌≤◌, cond, ◌&&◌, ◌||◌, [], length};
 ghost use Rattle.graph.specs.Column.{marked};
 ghost use Rattle.graph.specs.Held.{held};
 ghost use Rattle.values.specs.declared.RowState.TheVariants.{Running, Committed};
 ghost use Rattle.model.specs.Rollback.{fallen};
 ghost use Rattle.model.specs.Rows.{in_state, idle, with_states};
 ghost use Rattle.rows.specs.Columns.{row_at, row_idle, row_fallen};
+ghost use Rattle.rows.specs.Followers.{HasDue};
 ghost use Rattle.rows.specs.Tables.{rows_of, rolled_of};
 
 use super::RowTable;
@@ -13,6 +14,7 @@ use crate::row::Row;
 use crate::steps::step_at;
 use graph::marks::Marks;
 use process::parts::Step;
+use rowset::RowSet;
 use values::RowState;
 
 // What becomes of a state in an abort.
@@ -57,6 +59,18 @@ fn fall_all(rows: &mut [Row], steps: &[Step], marks: &Marks, number: u16)
     }
 }
 
+// The rows that are due.
+fn due_rows(rows: &[Row]) -> RowSet
+    requires { length rows.now ≤ 256 }
+    ensures { HasDue result rows.now }
+{
+    let mut due = RowSet::new();
+    for (i, row) in rows.iter().enumerate() {
+        due.put(i as u16 + 1, row.state == RowState::Due);
+    }
+    due
+}
+
 impl RowTable {
     /// Takes the rows back that an abort drops or strikes: running rows are dropped, and of the committed rows that are
     /// marked the idle ones are passed over and the others due. All of them get the rollback's number.
@@ -71,5 +85,6 @@ impl RowTable {
             number (rolled_of self.old k)) }
     {
         fall_all(&mut self.rows, steps, marks, number);
+        self.sets.due = due_rows(&self.rows);
     }
 }

@@ -1,7 +1,9 @@
 // The rows searched.
-ghost use Rattle.std.specs.Prelude.{◌≡◌, ◌+◌, ◌<◌, true, ◌&&◌, [], length};
+ghost use Rattle.std.specs.Prelude.{◌≡◌, ◌+◌, true, ◌&&◌, ◌==◌};
 ghost use Rattle.values.specs.declared.RowState.{RowState as State};
-ghost use Rattle.model.specs.Search.{any_below};
+ghost use Rattle.values.specs.declared.RowState.TheVariants.{Due};
+ghost use Rattle.graph.specs.Reach.{Least};
+ghost use Rattle.model.specs.Search.{any_below, has};
 ghost use Rattle.model.specs.Chart.{by_flow};
 ghost use Rattle.model.specs.Rows.{in_state, live, any_live};
 ghost use Rattle.model.specs.Calls.{lowest_row};
@@ -9,6 +11,7 @@ ghost use Rattle.rows.specs.Tables.{rows_of};
 ghost use Rattle.rows.specs.Columns.{follows};
 
 use super::RowTable;
+use crate::counted::numbered;
 use values::{Flow, RowState};
 
 impl RowTable {
@@ -40,15 +43,32 @@ impl RowTable {
         (0..self.len() + 1).find(|&number| self.is_in(state, number))
     }
 
-    // Whether row `later` is live, follows row `earlier` by one arrow, and uses its exit up for a row of the step.
-    fn follows(&self, exit: Flow, step: u16, earlier: u16, later: u16) -> bool
-        ensures { result ≡ follows (rows_of self.now) exit step earlier later }
+    /// The lowest row above `after` that follows row `earlier` by one arrow.
+    pub(crate) fn next_follower(&self, earlier: u16, after: u16) -> Option<u16>
+        ensures { Least (λ k. has earlier ((rows_of self.now).preds k) ≡ true) after result }
     {
-        self.is_live(later)
-            && self.predecessors(later).contains(&earlier)
+        match numbered(&self.sets.followers, earlier) {
+            Some(followers) => followers.next_above(after),
+            None => None,
+        }
+    }
+
+    /// The lowest due row above `after`.
+    pub(crate) fn next_due(&self, after: u16) -> Option<u16>
+        ensures { Least (λ k. in_state (rows_of self.now) Due k ≡ true) after result }
+    {
+        self.sets.due.next_above(after)
+    }
+
+    // Whether a follower is live, and uses an exit up for a row of the step.
+    fn uses_exit(&self, exit: Flow, step: u16, follower: u16) -> bool
+        ensures { result ≡ (live ((rows_of self.now).state follower)
+            && by_flow exit true ((rows_of self.now).step follower == step)) }
+    {
+        self.is_live(follower)
             && match exit {
                 Flow::One => true,
-                Flow::All => self.step(later) == step,
+                Flow::All => self.step(follower) == step,
             }
     }
 
@@ -57,8 +77,13 @@ impl RowTable {
         ensures { result ≡ any_below ((rows_of self.now).count + 1)
             (follows (rows_of self.now) exit step number) }
     {
-        // a row has a higher number than its predecessors
-        self.above(number)
-            .any(|later| self.follows(exit, step, number, later))
+        let mut after = 0;
+        while let Some(follower) = self.next_follower(number, after) {
+            if self.uses_exit(exit, step, follower) {
+                return true;
+            }
+            after = follower;
+        }
+        false
     }
 }

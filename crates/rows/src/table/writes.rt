@@ -1,14 +1,31 @@
 // A table made, and a row written or added.
-ghost use Rattle.std.specs.Prelude.{◌≡◌, cond, is_ok, IfOk};
+ghost use Rattle.std.specs.Prelude.{◌≡◌, ℕ, ◌≤◌, true, cond, ◌&&◌, ◌||◌, length, is_ok, IfOk, ◌==◌};
 ghost use Rattle.values.specs.declared.RowState.TheVariants.{Absent};
 ghost use Rattle.model.specs.Rows.{no_rows, in_state, marked, added};
+ghost use Rattle.model.specs.Search.{has};
+ghost use Rattle.rowset.specs.Members.{is_number, contains};
 ghost use Rattle.rows.specs.Columns.{fits};
+ghost use Rattle.rows.specs.Followers.{set_at};
 ghost use Rattle.rows.specs.Tables.{rows_of, rolled_of};
 
-use super::{MOST_ROWS, RowTable, Unfit};
+use super::{MOST_ROWS, RowTable, Sets, Unfit};
 use crate::row::{Row, first_eight};
+use rowset::RowSet;
 use std::alloc::{AllocError, Global};
 use values::{Entry, RowState};
+
+// Makes a row a follower of each of its predecessors.
+fn add_follower(followers: &mut [RowSet], predecessors: &[u16], row: u16)
+    requires row { is_number row ≡ true }
+    requires inside { (k : ℕ) → has k predecessors.now ≡ true → (1 ≤ k) × (k ≤ length followers.old) }
+    ensures sets { (k v : ℕ) → contains (set_at followers.new k) v
+        ≡ (contains (set_at followers.old k) v || (v == row && has k predecessors.now)) }
+    ensures len { length followers.new ≡ length followers.old }
+{
+    for k in predecessors {
+        followers[*k as usize - 1].insert(row);
+    }
+}
 
 impl RowTable {
     /// A table without rows. It takes the memory for all its rows now.
@@ -17,7 +34,10 @@ impl RowTable {
         ensures rolled { IfOk result (λ t. rolled_of t ≡ (λ _. 0)) }
     {
         let rows = Vec::with_capacity(heap, MOST_ROWS)?;
-        Ok(RowTable { rows })
+        let followers = Vec::with_capacity(heap, MOST_ROWS)?;
+        let due = RowSet::new();
+        let sets = Sets { followers, due };
+        Ok(RowTable { rows, sets })
     }
 
     /// Puts a row into another state; nothing changes where there is no such row.
@@ -32,6 +52,7 @@ impl RowTable {
         }
         // the row is there: a `get_mut` would look again
         self.rows[number as usize - 1].state = to;
+        self.sets.due.put(number, to == RowState::Due);
     }
 
     /// Whether a row that follows these can be added: there is a place, and they are at most eight of the rows.
@@ -56,6 +77,9 @@ impl RowTable {
         if !self.fits(predecessors) {
             return Err(Unfit);
         }
+        let row = self.len() + 1;
+        add_follower(&mut self.sets.followers, predecessors, row);
+        self.sets.followers.push_reserved(RowSet::new());
         self.rows.push_reserved(Row {
             step,
             predecessors: first_eight(predecessors),

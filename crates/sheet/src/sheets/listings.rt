@@ -1,5 +1,5 @@
 // The listing: the compensating graph, and where the competition may go on.
-ghost use Rattle.std.specs.Prelude.{◌≡◌, ◌+◌, ◌^◌, ◌<◌, ◌≤◌, true, false, ◌&&◌, length, ◌==◌};
+ghost use Rattle.std.specs.Prelude.{◌≡◌, ℕ, ◌+◌, ◌^◌, ◌<◌, ◌≤◌, true, false, ◌&&◌, length};
 ghost use Rattle.graph.specs.Held.{held};
 ghost use Rattle.graph.specs.Scratch.{SameLoans};
 ghost use Rattle.process.specs.Accepted.{enough};
@@ -7,10 +7,11 @@ ghost use Rattle.model.specs.Search.{any_below, all_below, has};
 ghost use Rattle.model.specs.Rollback.{behind, stopped, at_start, restart_points};
 ghost use Rattle.model.specs.Sheet.{in_graph, arrows_from, graph_arrows};
 ghost use Rattle.model.specs.Run.{column_after};
-ghost use Rattle.rows.specs.Marking.{LinksMarked, BackwardMarked};
+ghost use Rattle.rows.specs.Linked.{HasLinks, links_at};
+ghost use Rattle.rows.specs.Marking.{BackwardMarked};
 ghost use Rattle.values.specs.Checks.{answer};
 ghost use Rattle.values.specs.declared.Mode.TheVariants.{Partial};
-ghost use Rattle.sheet.specs.Listings.{ends, arrows_at, graph_check, Puts};
+ghost use Rattle.sheet.specs.Listings.{arrows_at, graph_check, PointMarks, Puts};
 ghost use Rattle.sheet.specs.Reports.{Lists, points_of};
 ghost use Rattle.sheet.specs.SheetOf.{sheet_of, chart_of};
 
@@ -19,10 +20,11 @@ use crate::memory::wants_memory;
 use crate::tables::put_if;
 use graph::marks::Marks;
 use graph::scratch::Scratch;
+use rowset::RowSet;
 use values::{Cause, Fault, Layer, Mode, Phase, RowArrow, RowState};
 
-// Each of the functions that put something into a table gives the next place of it. One that is too short, as an empty one,
-// is written as far as it goes: so they also count.
+// Each function that puts something into a table gives the next place of it. A table that is too short is written as far as
+// it goes, so with an empty one the same functions count.
 
 impl Sheet {
     // Whether the current rollback made the row due.
@@ -33,64 +35,44 @@ impl Sheet {
             && matches!(self.table.state(row), RowState::Due | RowState::Undone)
     }
 
-    // Whether an arrow leads from a row of the graph, the links to which are marked, to another row.
-    fn is_end(&self, from: u16, to: u16, marks: &Marks) -> bool
-        requires { LinksMarked (sheet_of self.now).rows from (held marks.now) }
-        ensures { result ≡ ends (sheet_of self.now) from to }
-    {
-        marks.is_set(usize::from(to)) && self.is_in_graph(to)
-    }
-
-    // Puts the arrows from a row of the graph, the links to which are marked.
-    fn put_arrows_from(&self, from: u16, marks: &Marks, table: &mut [RowArrow], at: usize) -> usize
-        requires links { LinksMarked (sheet_of self.now).rows from (held marks.now) }
+    // Puts the arrows from a row of the graph, by the set of the rows that are linked to it.
+    fn put_arrows_from(&self, from: u16, links: &RowSet, table: &mut [RowArrow], at: usize) -> usize
+        requires links { HasLinks (sheet_of self.now).rows from links.now }
         requires row { from ≤ (sheet_of self.now).rows.count }
         requires room { at + 257 < 2 ^ 64 }
         ensures { Puts (arrows_from (sheet_of self.now) from) at table.old result table.new }
     {
         let mut next = at;
-        // only lower rows are linked to a row
-        for to in 0..from {
-            next = put_if(
-                self.is_end(from, to, marks),
-                RowArrow { from, to },
-                table,
-                next,
-            );
+        let mut last = 0;
+        while let Some(to) = links.next_above(last) {
+            next = put_if(self.is_in_graph(to), RowArrow { from, to }, table, next);
+            last = to;
         }
         next
     }
 
     // Puts the arrows from a row, if it is one of the graph.
-    fn put_arrows_at(
-        &self,
-        row: u16,
-        scratch: &mut Scratch,
-        table: &mut [RowArrow],
-        at: usize,
-    ) -> usize
-        requires lent { enough (length (held scratch.old.marks.now)) (length scratch.old.line.now) ≡ true }
+    fn put_arrows_at(&self, row: u16, links: &RowSet, table: &mut [RowArrow], at: usize) -> usize
+        requires links { HasLinks (sheet_of self.now).rows row links.now }
         requires row { row ≤ (sheet_of self.now).rows.count }
         requires room { at + 257 < 2 ^ 64 }
-        ensures puts { Puts (arrows_at (sheet_of self.now) row) at table.old result table.new }
-        ensures loans { SameLoans scratch.old scratch.new }
+        ensures { Puts (arrows_at (sheet_of self.now) row) at table.old result table.new }
     {
         if !self.is_in_graph(row) {
             return at;
         }
-        self.table.links_to(row, scratch).unwrap();
-        self.put_arrows_from(row, scratch.marks, table, at)
+        self.put_arrows_from(row, links, table, at)
     }
 
     // Puts the arrows of the graph.
-    fn put_arrows(&self, scratch: &mut Scratch, table: &mut [RowArrow]) -> usize
-        requires { enough (length (held scratch.old.marks.now)) (length scratch.old.line.now) ≡ true }
-        ensures puts { Puts (graph_arrows (sheet_of self.now)) 0 table.old result table.new }
-        ensures loans { SameLoans scratch.old scratch.new }
+    fn put_arrows(&self, links: &[RowSet; 257], table: &mut [RowArrow]) -> usize
+        requires { (v : ℕ) → v ≤ (sheet_of self.now).rows.count
+            → HasLinks (sheet_of self.now).rows v (links_at links.now v) }
+        ensures { Puts (graph_arrows (sheet_of self.now)) 0 table.old result table.new }
     {
         let mut next = 0;
         for row in 0..self.table.len() + 1 {
-            next = self.put_arrows_at(row, scratch, table, next);
+            next = self.put_arrows_at(row, &links[row as usize], table, next);
         }
         next
     }
@@ -156,28 +138,37 @@ impl Sheet {
     }
 
     // Puts the restart points of a partial abort: the start, if the way back came to it, and the savepoints.
-    fn put_points_from(&self, f: u16, scratch: &mut Scratch, table: &mut [u16]) -> usize
-        requires { enough (length (held scratch.old.marks.now)) (length scratch.old.line.now) ≡ true }
-        ensures puts { Puts (restart_points (chart_of self.now) (sheet_of self.now).rows (Partial f)) 0 table.old
-            result table.new }
-        ensures loans { SameLoans scratch.old scratch.new }
+    fn put_points_from(&self, f: u16, marks: &Marks, table: &mut [u16]) -> usize
+        requires { BackwardMarked (chart_of self.now) (sheet_of self.now).rows f (held marks.now) }
+        ensures { Puts (restart_points (chart_of self.now) (sheet_of self.now).rows (Partial f)) 0
+            table.old result table.new }
     {
-        self.table
-            .mark_backward(self.process.steps(), f, scratch)
-            .unwrap();
-        let next = put_if(self.is_at_start(f, scratch.marks), 0, table, 0);
-        self.put_stops(f, scratch.marks, table, next)
+        let next = put_if(self.is_at_start(f, marks), 0, table, 0);
+        self.put_stops(f, marks, table, next)
     }
 
     // Puts the restart points of the last abort.
-    fn put_points(&self, scratch: &mut Scratch, table: &mut [u16]) -> usize
-        requires { enough (length (held scratch.old.marks.now)) (length scratch.old.line.now) ≡ true }
-        ensures puts { Puts (points_of (chart_of self.now) (sheet_of self.now)) 0 table.old result table.new }
-        ensures loans { SameLoans scratch.old scratch.new }
+    fn put_points(&self, marks: &Marks, table: &mut [u16]) -> usize
+        requires { PointMarks (chart_of self.now) (sheet_of self.now).rows (sheet_of self.now).mode (held marks.now) }
+        ensures { Puts (points_of (chart_of self.now) (sheet_of self.now)) 0 table.old result table.new }
     {
         match self.mode {
             Mode::Complete => put_if(true, 0, table, 0),
-            Mode::Partial(f) => self.put_points_from(f, scratch, table),
+            Mode::Partial(f) => self.put_points_from(f, marks, table),
+        }
+    }
+
+    // Marks the backward part of the failing row, if the last abort was partial.
+    fn mark_way_back(&self, scratch: &mut Scratch)
+        requires { enough (length (held scratch.old.marks.now)) (length scratch.old.line.now) ≡ true }
+        ensures marks { PointMarks (chart_of self.now) (sheet_of self.now).rows (sheet_of self.now).mode
+            (held scratch.new.marks.now) }
+        ensures loans { SameLoans scratch.old scratch.new }
+    {
+        if let Mode::Partial(f) = self.mode {
+            self.table
+                .mark_backward(self.process.steps(), f, scratch)
+                .unwrap();
         }
     }
 
@@ -204,14 +195,16 @@ impl Sheet {
         ensures loans { SameLoans scratch.old scratch.new }
     {
         self.wants_graph()?;
+        let links = self.table.links();
+        self.mark_way_back(scratch);
         // both are counted first: a declined listing leaves both tables as they were
-        let arrow_count = self.put_arrows(scratch, &mut []);
-        let restart_count = self.put_points(scratch, &mut []);
+        let arrow_count = self.put_arrows(&links, &mut []);
+        let restart_count = self.put_points(scratch.marks, &mut []);
         if arrow_count > arrows.len() || restart_count > restarts.len() {
             return Err(Layer::Sheet.fault(Cause::ShortMemory, 0));
         }
-        self.put_arrows(scratch, arrows);
-        self.put_points(scratch, restarts);
+        self.put_arrows(&links, arrows);
+        self.put_points(scratch.marks, restarts);
         Ok((arrow_count, restart_count))
     }
 

@@ -30,7 +30,7 @@ fn set_step(bytes: &mut [u8], step: u16, value: u8)
     requires fits { value < 8 }
     ensures { SetsStep step value bytes.old bytes.new }
 {
-    set_field(bytes, 29 + 3 * usize::from(step), 3, u16::from(value));
+    set_field(bytes, 32 + 3 * (usize::from(step) - 1), 3, u16::from(value));
 }
 
 impl Sheet {
@@ -92,7 +92,7 @@ impl Sheet {
     // Writes the reply.
     fn write_reply(&self, bytes: &mut [u8])
         requires { 32 ≤ length bytes.old }
-        ensures { StandsFirst (chart_of self.now) (sheet_of self.now) bytes.old bytes.new }
+        ensures { StandsFirst self.now bytes.old bytes.new }
     {
         self.write_front(bytes);
         self.write_private(bytes);

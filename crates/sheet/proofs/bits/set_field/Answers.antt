@@ -1,5 +1,5 @@
 -- Two bytes are written.
-use Rattle.std.proofs.Common.{◌≡◌, ◌+◌, ◌-◌, ◌*◌, ◌/◌, ◌%◌, get_or, rules, arith}
+use Rattle.std.proofs.Common.{◌≡◌, ◌-◌, ◌/◌, ◌%◌, get_or, rules, arith}
 use Rattle.sheet.proofs.Fields.{sets_bits}
 use Rattle.sheet.proofs.bits.set_field.Goals as goal
 

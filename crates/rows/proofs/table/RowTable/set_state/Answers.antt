@@ -1,10 +1,14 @@
 -- One row's state written: it is a row, since it is not absent.
-use Rattle.std.proofs.Common.{◌≡◌, false, cond, sym, ap, ◌∙◌}
+use Rattle.std.proofs.Common.{◌≡◌, ◌-◌, false, cond, ◌&&◌, eqb, rules, tests, sym, ap, ◌∙◌, subst, arith, length-set}
 use Rattle.values.specs.Numbers.{same_state}
-use Rattle.values.specs.declared.RowState.TheVariants.{Absent}
+use Rattle.values.specs.declared.RowState.TheVariants.{Absent, Due}
 use Rattle.model.specs.Rows.{marked}
-use Rattle.rows.specs.Columns.{row_at, columns}
-use Rattle.rows.proofs.Columns.{known_within, row_inside, columns_marked, rolled_marked, lower_marked, positive_marked}
+use Rattle.model.specs.Sheets.{Lower}
+use Rattle.rowset.specs.Members.{is_number, contains}
+use Rattle.rows.specs.Columns.{row_at, columns, Positive}
+use Rattle.rows.proofs.Columns.{known_within, row_inside, columns_marked, rolled_marked, preds_marked, states_marked}
+use Rattle.rows.proofs.Dues.{due_put}
+use Rattle.rows.proofs.Followers.{told, told_kept}
 use Rattle.rows.proofs.table.RowTable.set_state.Goals as goal
 
 pub invariant_of-self : goal.invariant_of-self
@@ -15,11 +19,17 @@ invariant_of-self c =
     let here : same_state (row_at rows k).state Absent ≡ false = sym c.if-is_in.ensures in
     let w = known_within rows k here in
     let is = row_inside rows k _ w.0 w.1 c.index_mut.ensures.value in
+    let due : c.eq.result ≡ same_state c.args.to Due = search (rules, tests) in
+    let preds = sym (preds_marked rows k _ c.args.to w.0 w.1 is) in
+    let dues = due_put rows _ k c.args.to s.sets.due _ w.0 (omega (arith, w.1, s.few, s.rows.ok.0))
+    (states_marked rows k _ c.args.to w.0 w.1 is)
+    (λ j. c.put.ensures j ∙ ap (λ b. cond (eqb j k) (b && is_number j) (contains s.sets.due j)) due) (told s.told).due in
     record {
-      lower = lower_marked rows k _ c.args.to w.0 w.1 is s.lower;
-      positive = positive_marked rows k _ c.args.to w.0 w.1 is s.positive;
+      lower = subst Lower preds s.lower;
+      positive = subst Positive preds s.positive;
       few = s.few;
       reserved = s.reserved;
+      told = told_kept s.sets _ rows _ preds (length-set rows (k - 1) _) dues s.told;
     }
 
 pub returns : goal.returns

@@ -1,7 +1,7 @@
 -- One event more leads on.
-use Rattle.std.proofs.Common.{◌≡◌, refl, sym, ap, ◌∙◌, subst, arith}
+use Rattle.std.proofs.Common.{refl, ◌∙◌, arith}
 use Rattle.sheet.specs.Runs.{world_of, process_of}
-use Rattle.sheet.proofs.Going.{Gone, goes_on, gone_first, gone_more}
+use Rattle.sheet.proofs.Going.{goes_on, gone_first, gone_more}
 use Rattle.sheet.proofs.replay.Competition.replay.Goals as goal
 
 pub loop-event-init : goal.loop-event-init

@@ -1,7 +1,6 @@
 -- Zeros, and four fields.
 use Rattle.std.proofs.Common.{arith}
 use Rattle.sheet.proofs.Fields.{sets_front}
-use Rattle.sheet.specs.SheetOf.{sheet_of, chart_of}
 use Rattle.sheet.proofs.sheets.Sheet.write_front.Goals as goal
 
 pub returns : goal.returns
@@ -9,6 +8,6 @@ returns c =
     let x = c.args.self.now in
     let phase = simp (c.from.ensures, c.from-2.ensures) at c.set_field-2.ensures in
     let steps = simp c.steps.ensures at c.set_field-3.ensures in
-    let is = sets_front (chart_of x) (sheet_of x) c.args.bytes.now c.fill.new.self _ _ _ _ (c.fill.ensures.after (λ y e. e))
-    (omega arith) (omega (arith, x.process.few_steps, x.process.steps.ok.0)) (omega arith) c.set_field.ensures phase steps c.set_field-4.ensures in
-    record { reply = is.0; rest = is.1 }
+    let few = x.process.steps.ok.0 in
+    sets_front x c.args.bytes.now c.fill.new.self _ _ _ _ (c.fill.ensures.after (λ y e. e)) (omega arith)
+    (omega (arith, x.process.few_steps, few)) (omega arith) c.set_field.ensures phase steps c.set_field-4.ensures

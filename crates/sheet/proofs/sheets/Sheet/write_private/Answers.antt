@@ -1,6 +1,6 @@
 -- Each step in turn.
 use Rattle.std.proofs.Common.{refl, arith, ◌∙◌}
-use Rattle.sheet.proofs.Shown.{none_hidden, all_hidden, one_hidden, one_open}
+use Rattle.sheet.proofs.Shown.{none_hidden, all_hidden, one_hidden, one_public}
 use Rattle.sheet.proofs.sheets.Sheet.write_private.Goals as goal
 use Rattle.sheet.proofs.sheets.Sheet.write_private.Goals.{then-is_private, else-is_private}
 
@@ -12,15 +12,16 @@ loop-step-preserved c =
     let x = c.args.self.now in
     let n = c.loop-step.step in
     let so_far = c.loop-step.invariant in
+    let before = c.loop-step.bytes in
     elim c.if-is_private.branch [
       | then-is_private w ↦ rw w.bytes-is record {
-          reply = one_hidden x n c.loop-step.bytes w.set_step.new.bytes (omega arith) (omega arith) w.if-is_private.ensures so_far.reply w.set_step.ensures;
-          rest = w.set_step.ensures.rest ∙ so_far.rest;
-        }
+        reply = one_hidden x n before w.set_step.new.bytes (omega arith) (omega arith) w.if-is_private.ensures so_far.reply w.set_step.ensures;
+        rest = w.set_step.ensures.rest ∙ so_far.rest;
+      }
       | else-is_private w ↦ rw w.bytes-is record {
-          reply = one_open x n c.loop-step.bytes w.if-is_private.ensures so_far.reply;
-          rest = so_far.rest;
-        }
+        reply = one_public x n before w.if-is_private.ensures so_far.reply;
+        rest = so_far.rest;
+      }
     ]
 
 pub returns : goal.returns

@@ -1,10 +1,9 @@
 use Rattle.std.proofs.Common.{◌∙◌, rules, arith}
 use Rattle.sheet.proofs.Shown.{stands_first}
-use Rattle.sheet.specs.SheetOf.{sheet_of, chart_of}
 use Rattle.sheet.proofs.sheets.Sheet.write_reply.Goals as goal
 
 pub returns : goal.returns
 returns c =
-    let x = c.args.self.now in
     let rest = c.write_rows.ensures.rest ∙ c.write_private.ensures.rest ∙ c.write_front.ensures.rest in
-    stands_first (chart_of x) (sheet_of x) c.args.bytes.now c.write_rows.new.bytes (omega arith) (search rules) c.write_rows.ensures.reply rest
+    stands_first c.args.self.now c.args.bytes.now c.write_rows.new.bytes (omega arith) (search rules)
+    (record { reply = c.write_rows.ensures.reply; rest = rest })
