@@ -58,6 +58,20 @@ impl<X: Host> Competition<X> {
     {
         &self.memory
     }
+
+    /// Parts the competition into its sheet, its host and its memory.
+    pub fn into_parts(self) -> (Sheet, X, Memory)
+        ensures sheet { result.0 ≡ self.sheet }
+        ensures host { result.1 ≡ self.host }
+        ensures memory { result.2 ≡ self.memory }
+    {
+        let Competition {
+            sheet,
+            host,
+            memory,
+        } = self;
+        (sheet, host, memory)
+    }
 }
 
 /// What came of a list of events, as far as they were taken, and whether memory ran out before the next.

@@ -25,4 +25,12 @@ impl Sheet {
             mode: Mode::Complete,
         })
     }
+
+    /// The process that the sheet was made from, for another sheet.
+    pub fn into_process(self) -> Process
+        ensures { result ≡ self.process }
+    {
+        let Sheet { process, .. } = self;
+        process
+    }
 }
