@@ -1,5 +1,5 @@
 // The memory that calls are lent.
-ghost use Rattle.std.specs.Prelude.{◌≡◌, length, IfOk};
+ghost use Rattle.std.specs.Prelude.{◌≡◌, length, replicate, vec_items, IfOk};
 ghost use Rattle.values.specs.Checks.{answer};
 ghost use Rattle.model.specs.Calls.{memory_check};
 ghost use Rattle.sheet.specs.Lent.{lent_of, zeros};
@@ -32,7 +32,8 @@ pub struct Memory {
 impl Memory {
     /// Memory of these lengths, all zero.
     pub fn new(heap: Global, sizes: Sizes) -> Result<Memory, AllocError>
-        ensures { IfOk result (λ m. lent_of m ≡ zeros sizes) }
+        ensures lent { IfOk result (λ m. lent_of m ≡ zeros sizes) }
+        ensures line { IfOk result (λ m. vec_items m.line ≡ replicate sizes.line 0) }
     {
         let none = RowArrow { from: 0, to: 0 };
         Ok(Memory {

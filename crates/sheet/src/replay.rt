@@ -1,5 +1,5 @@
 // A competition, event after event.
-ghost use Rattle.std.specs.Prelude.{◌≡◌, ◌≤◌, [], ◌∷◌, ◌++◌, length, None, vec_items, IfOk, OnErr, OnOk};
+ghost use Rattle.std.specs.Prelude.{◌≡◌, ◌≢◌, ◌<◌, ◌≤◌, [], ◌∷◌, ◌++◌, length, None, vec_items, IfOk, OnErr, OnOk};
 ghost use Rattle.model.specs.Run.{world};
 ghost use Rattle.sheet.specs.Happenings.{history_of, Steers};
 ghost use Rattle.sheet.specs.Lent.{lent_of};
@@ -125,6 +125,7 @@ where
             (history_of events.now (vec_items result.taken)) (world_of X.Host.view self.new) }
         ensures all { result.stopped ≡ None → length (vec_items result.taken) ≡ length events.now }
         ensures some { length (vec_items result.taken) ≤ length events.now }
+        ensures left { (result.stopped ≢ None) → length (vec_items result.taken) < length events.now }
         ensures process { process_of self.new ≡ process_of self.old }
     {
         let mut taken = Vec::new(heap);

@@ -27,6 +27,10 @@ pub returns-in-Err-clause-some : goal.returns-in-Err-clause-some
 returns-in-Err-clause-some g c =
     rw c.in-Err.ensures.kept (let so_far = c.loop-event.invariant.0 in omega (arith, so_far.few, so_far.told))
 
+pub returns-in-Err-clause-left : goal.returns-in-Err-clause-left
+returns-in-Err-clause-left g c _ =
+    rw c.in-Err.ensures.kept (let so_far = c.loop-event.invariant.0 in omega (arith, so_far.told, c.loop-event-test.true))
+
 pub returns-in-Err-clause-process : goal.returns-in-Err-clause-process
 returns-in-Err-clause-process g c = c.in-Err.ensures.process ∙ c.loop-event.invariant.1
 
@@ -39,3 +43,6 @@ returns-clause-all g c _ = let so_far = c.loop-event.invariant.0 in omega (arith
 
 pub returns-clause-some : goal.returns-clause-some
 returns-clause-some g c = let so_far = c.loop-event.invariant.0 in omega (arith, so_far.few, so_far.told)
+
+pub returns-clause-left : goal.returns-clause-left
+returns-clause-left g c stopped = absurd (stopped refl)
