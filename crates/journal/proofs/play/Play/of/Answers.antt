@@ -7,7 +7,7 @@ use Rattle.journal.proofs.play.Play.of.Goals as goal
 pub returns-clause-played : goal.returns-clause-played
 returns-clause-played c =
     let opened = c.new-3.ensures.world
-    ∙ (λ i. world (c.in_ok-sheet.ensures.sheet i) (c.in_ok-hosts.ensures.shows i) (c.in_ok-memory.ensures i)) in
+    ∙ (λ i. world (c.in_ok-sheet.ensures.sheet i) (c.in_ok-hosts.ensures.shows i) (c.in_ok-memory.ensures.lent i)) in
     let on = (λ i. switches_of (c.new-3.ensures.host i)) ∙ c.in_ok-hosts.ensures.on in
     let none = c.default.ensures in
     λ i. record {

@@ -1,5 +1,5 @@
 -- The summary is that of the sheet, and the balance that of the ledger.
-use Rattle.std.proofs.Common.{◌≡◌, ◌∙◌}
+use Rattle.std.proofs.Common.{◌∙◌}
 use Rattle.std.proofs.lemmas.Result.{IfOk-weaker}
 use Rattle.model.specs.Summaries.{summary_of}
 use Rattle.sheet.specs.SheetOf.{sheet_of, chart_of}
