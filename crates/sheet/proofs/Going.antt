@@ -1,13 +1,16 @@
 -- What events carry on. Assumes nothing.
-use Rattle.std.proofs.Common.{◌≡◌, ℕ, ◌+◌, ◌<◌, ◌≤◌, List, [], ◌∷◌, ◌++◌, length, get_or, sym, refl, ap, ◌∙◌, subst, arith}
-use Rattle.std.proofs.lemmas.List.{append-nil, append_assoc, length_push}
+use Rattle.std.proofs.Common.{◌≡◌, ℕ, Bool, map, ◌+◌, ◌<◌, ◌≤◌, List, [], ◌∷◌, ◌++◌, length, get_or, sym, refl, ap, ◌∙◌, subst, arith}
+use Rattle.std.specs.List.{zip}
+use Rattle.std.proofs.lemmas.List.{append-nil, append_assoc, length_push, map-append}
 use Rattle.values.specs.declared.Answer.{Answer}
+use Rattle.host.specs.View.{View}
 use Rattle.model.specs.Chart.{Chart}
 use Rattle.model.specs.Run.{World, Event as Happening, does, History, Leads, nothing, one_more}
 use Rattle.model.proofs.Law.{law_over_every_run}
 use Rattle.sheet.specs.declared.events.Event.{Event}
 use Rattle.sheet.specs.declared.events.Taken.{Taken}
-use Rattle.sheet.specs.Happenings.{happening, history_of}
+use Rattle.sheet.specs.Happenings.{happening, history_of, Steers, Along}
+use Rattle.sheet.specs.Happenings.{nothing as along_nothing, one_more as along_one}
 use Rattle.sheet.specs.Runs.{Does, GoesOn}
 
 -- one history after another
@@ -51,14 +54,25 @@ pub goes_one : (c : Chart) (w : World) (e : Happening) (a : Answer) (w' : World)
 goes_one c w e a w' h = goes_on c w (subst (λ (x : World × Answer). Leads c w ((e, x.1) ∷ []) x.0) h (one_more nothing e))
 
 module _ {C : Type 0} where
+  -- nothing is told of no event
+  zip_none : (es : List (Event C)) → zip {X = Taken} es [] ≡ []
+  zip_none [] = refl
+  zip_none (x ∷ es) = refl
+
   -- one event more of a list
+  zip_more : (es : List (Event C)) (ts : List Taken) (t : Taken) (e : Event C) → length ts < length es
+      → e ≡ get_or es (length ts) e → zip es (ts ++ t ∷ []) ≡ zip es ts ++ (e, t) ∷ []
+  zip_more [] ts t e low at = absurd (omega (arith, low))
+  zip_more (x ∷ es) [] t e low at = ap (λ y. (y, t) ∷ zip es []) (sym at) ∙ ap (λ l. (e, t) ∷ l) (zip_none es)
+  zip_more (x ∷ es) (u ∷ ts) t e low at = ap (λ l. (x, u) ∷ l) (zip_more es ts t e (omega (arith, low)) at)
+
+  abbrev told_as : Event C × Taken → Happening × Answer
+  told_as x = (happening x.1.shut x.0, x.1.answer)
+
   history_more : (es : List (Event C)) (ts : List Taken) (t : Taken) (e : Event C) → length ts < length es
       → e ≡ get_or es (length ts) e
       → history_of es (ts ++ t ∷ []) ≡ history_of es ts ++ history_of (e ∷ []) (t ∷ [])
-  history_more [] ts t e low at = absurd (omega (arith, low))
-  history_more (x ∷ es) [] t e low at = ap (λ y. (happening t.shut y, t.answer) ∷ []) (sym at)
-  history_more (x ∷ es) (u ∷ ts) t e low at =
-      ap (λ h. (happening u.shut x, u.answer) ∷ h) (history_more es ts t e (omega (arith, low)) at)
+  history_more es ts t e low at = ap (map told_as) (zip_more es ts t e low at) ∙ map-append told_as (zip es ts) ((e, t) ∷ [])
 
   -- the first events of a list were taken, as many as it was told of
   pub record Gone (c : Chart) (first : World) (es : List (Event C)) (at : ℕ) (ts : List Taken) (w : World) : Type 0 where
@@ -70,7 +84,8 @@ module _ {C : Type 0} where
   gone_first c first es ts none = record {
     few = omega arith;
     told = ap length none;
-    leads = subst (λ (x : List Taken). Leads c first (history_of es x) first) (sym none) nothing;
+    leads = subst (λ (x : List Taken). Leads c first (history_of es x) first) (sym none)
+        (subst (λ l. Leads c first (map told_as l) first) (sym (zip_none es)) nothing);
   }
 
   pub gone_more : (c : Chart) (first : World) (es : List (Event C)) (at : ℕ) (ts : List Taken) (w : World) (e : Event C) (ts' : List Taken) (t : Taken) (w' : World)
@@ -87,3 +102,18 @@ module _ {C : Type 0} where
         leads = subst (λ (x : List Taken). Leads c first (history_of es x) w') (sym more)
             (subst (λ h. Leads c first h w') (sym (history_more es ts t e below here)) (leads_on c first gone.leads leads));
       }
+
+  module _ {X : Type 0} (view : X → View) (switches : X → List Bool) (leaves : X → C → X → Type 0) where
+    pub along_first : (first : X) (es : List (Event C)) (ts : List Taken) → ts ≡ [] → Along view switches leaves first (zip es ts) first
+    along_first first es ts none =
+        subst (λ l. Along view switches leaves first l first) (sym (ap (zip es) none ∙ zip_none es)) along_nothing
+
+    pub along_more : (first x y : X) (es : List (Event C)) (at : ℕ) (ts : List Taken) (e : Event C) (ts' : List Taken) (t : Taken)
+        → at < length es → e ≡ get_or es at e → length ts ≡ at → ts' ≡ ts ++ t ∷ []
+        → Steers switches leaves e x y → t.shut ≡ (view y).shut → Along view switches leaves first (zip es ts) x
+        → Along view switches leaves first (zip es ts') y
+    along_more first x y es at ts e ts' t low is told more steers shut along =
+        let below : length ts < length es = omega (arith, low, told) in
+        let here : e ≡ get_or es (length ts) e = subst (λ n. e ≡ get_or es n e) (sym told) is in
+        subst (λ l. Along view switches leaves first l y) (sym (ap (zip es) more ∙ zip_more es ts t e below here))
+        (along_one along e t steers shut)

@@ -1,8 +1,10 @@
 -- Events and what they are told, as the model has them. Assumes nothing.
-use Rattle.std.specs.Prelude.{◌≡◌, Bool, List, [], ◌∷◌, Some, None, Ok, Err, Option, Result, vec_items}
+use Rattle.std.specs.Prelude.{◌≡◌, Bool, List, [], ◌∷◌, ◌++◌, map, Some, None, Ok, Err, Option, Result, vec_items}
+use Rattle.std.specs.List.{zip}
 use Rattle.values.specs.declared.Answer.{Answer}
 use Rattle.values.specs.declared.Answer.TheVariants.{Declined}
 use Rattle.values.specs.declared.Fault.{Fault}
+use Rattle.host.specs.View.{View}
 use Rattle.model.specs.Run.{start, end, abort, undo, finish, park, resume, listing, reply, lend, control, History}
 use Rattle.model.specs.Run.{Event as Happening}
 use Rattle.sheet.specs.declared.events.Event.{Event}
@@ -31,9 +33,7 @@ happening shut (event.Control c) = control shut
 
 -- the events of a list, as far as it was told of them, each with its answer
 abbrev pub history_of : {C : Type 0} → List (Event C) → List Taken → History
-history_of es [] = []
-history_of [] (t ∷ ts) = []
-history_of (e ∷ es) (t ∷ ts) = (happening t.shut e, t.answer) ∷ history_of es ts
+history_of es ts = map (λ x. (happening x.1.shut x.0, x.1.answer)) (zip es ts)
 
 -- the command of an event, if it is one
 abbrev pub command_of : {C : Type 0} → Event C → Option C
@@ -56,3 +56,10 @@ Steered switches leaves (Some c) before then = leaves before c then
 
 abbrev pub Steers : {X C : Type 0} → (X → List Bool) → (X → C → X → Type 0) → Event C → X → X → Type 0
 Steers switches leaves e before then = Steered switches leaves (command_of e) before then
+
+-- along events, each with what was told of it, from one host to another: each leaves the switches as it says, and it is
+-- told whether the host was shut then
+pub data Along {X C : Type 0} (view : X → View) (switches : X → List Bool) (leaves : X → C → X → Type 0) (first : X) : List (Event C × Taken) → X → Type 0 where
+  nothing : Along view switches leaves first [] first
+  one_more : {h : List (Event C × Taken)} {x y : X} → Along view switches leaves first h x → (e : Event C) (t : Taken)
+      → Steers switches leaves e x y → t.shut ≡ (view y).shut → Along view switches leaves first (h ++ (e, t) ∷ []) y

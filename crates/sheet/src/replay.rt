@@ -1,7 +1,8 @@
 // A competition, event after event.
 ghost use Rattle.std.specs.Prelude.{◌≡◌, ◌≢◌, ◌<◌, ◌≤◌, [], ◌∷◌, ◌++◌, length, None, vec_items, IfOk, OnErr, OnOk};
+ghost use Rattle.std.specs.List.{zip};
 ghost use Rattle.model.specs.Run.{world};
-ghost use Rattle.sheet.specs.Happenings.{history_of, Steers};
+ghost use Rattle.sheet.specs.Happenings.{history_of, Steers, Along};
 ghost use Rattle.sheet.specs.Lent.{lent_of};
 ghost use Rattle.sheet.specs.SheetOf.{sheet_of, chart_of};
 ghost use Rattle.sheet.specs.Runs.{world_of, process_of, GoesOn};
@@ -107,6 +108,8 @@ where
         taken: &mut Vec<Taken>,
     ) -> Result<(), AllocError>
         ensures goes { OnOk result ((t : Taken) × (vec_items taken.new ≡ vec_items taken.old ++ t ∷ [])
+            × (t.shut ≡ (X.Host.view self.new.host).shut)
+            × Steers X.Host.switches X.Controls.leaves event.now self.old.host self.new.host
             × GoesOn (process_of self.old) (world_of X.Host.view self.old)
             (history_of (event.now ∷ []) (t ∷ [])) (world_of X.Host.view self.new)) }
         ensures same { OnErr result (self.new ≡ self.old) }
@@ -123,6 +126,8 @@ where
     pub fn replay(&mut self, heap: Global, events: &[Event<X::Command>]) -> Replayed
         ensures goes { GoesOn (process_of self.old) (world_of X.Host.view self.old)
             (history_of events.now (vec_items result.taken)) (world_of X.Host.view self.new) }
+        ensures steered { Along X.Host.view X.Host.switches X.Controls.leaves self.old.host
+            (zip events.now (vec_items result.taken)) self.new.host }
         ensures all { result.stopped ≡ None → length (vec_items result.taken) ≡ length events.now }
         ensures some { length (vec_items result.taken) ≤ length events.now }
         ensures left { (result.stopped ≢ None) → length (vec_items result.taken) < length events.now }

@@ -44,8 +44,8 @@ fn fall_row(row: &mut Row, steps: &[Step], mark: bool, number: u16)
     let struck = row.state == RowState::Committed && mark;
     if row.state == RowState::Running || struck {
         row.rolled = number;
+        row.state = fallen(row.state, struck, is_idle(steps, row));
     }
-    row.state = fallen(row.state, struck, is_idle(steps, row));
 }
 
 // Every row after an abort; row 1 is the first of the list.

@@ -1,21 +1,28 @@
 -- One event more leads on.
 use Rattle.std.proofs.Common.{refl, ◌∙◌, arith}
 use Rattle.sheet.specs.Runs.{world_of, process_of}
-use Rattle.sheet.proofs.Going.{goes_on, gone_first, gone_more}
+use Rattle.sheet.proofs.Going.{goes_on, gone_first, gone_more, along_first, along_more}
 use Rattle.sheet.proofs.replay.Competition.replay.Goals as goal
 
 pub loop-event-init : goal.loop-event-init
-loop-event-init g c = (gone_first _ _ c.args.events.now c.new-taken.result.items c.new-taken.ensures.items, refl)
+loop-event-init g c = (
+      gone_first _ _ c.args.events.now c.new-taken.result.items c.new-taken.ensures.items,
+      refl,
+      along_first g.X.Host.view g.X.Host.switches g.X.Controls.leaves c.args.self.now.host c.args.events.now c.new-taken.result.items c.new-taken.ensures.items,
+    )
 
 pub loop-event-preserved : goal.loop-event-preserved
 loop-event-preserved g c =
     let view = g.X.Host.view in
     let x = c.args.self.now in
-    let (t, more, one) = c.in_default.ensures.goes in (
+    let (t, more, shut, steers, one) = c.in_default.ensures.goes in (
       gone_more (process_of x) (world_of view x) c.args.events.now c.loop-event.event-index c.loop-event.taken.items (world_of view c.loop-event.self)
           c.event-item.result c.take_into.new.taken.items t (world_of view c.take_into.new.self)
           c.loop-event-test.true c.event-item.is c.loop-event.invariant.0 more c.loop-event.invariant.1 one,
       c.in_default.ensures.process ∙ c.loop-event.invariant.1,
+      along_more view g.X.Host.switches g.X.Controls.leaves x.host c.loop-event.self.host c.take_into.new.self.host c.args.events.now
+          c.loop-event.event-index c.loop-event.taken.items c.event-item.result c.take_into.new.taken.items t
+          c.loop-event-test.true c.event-item.is c.loop-event.invariant.0.told more steers shut c.loop-event.invariant.2,
     )
 
 pub returns-in-Err-clause-goes : goal.returns-in-Err-clause-goes
@@ -46,3 +53,9 @@ returns-clause-some g c = let so_far = c.loop-event.invariant.0 in omega (arith,
 
 pub returns-clause-left : goal.returns-clause-left
 returns-clause-left g c stopped = absurd (stopped refl)
+
+pub returns-clause-steered : goal.returns-clause-steered
+returns-clause-steered g c = c.loop-event.invariant.2
+
+pub returns-in-Err-clause-steered : goal.returns-in-Err-clause-steered
+returns-in-Err-clause-steered g c = rw (c.in-Err.ensures.same, c.in-Err.ensures.kept) c.loop-event.invariant.2
