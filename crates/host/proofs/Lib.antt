@@ -3,3 +3,4 @@ pub mod Joined
 pub mod Along
 pub mod Checks
 pub mod Tables
+pub mod Zeros

@@ -4,3 +4,4 @@ pub mod Views
 pub mod Calls
 pub mod Later
 pub mod Table
+pub mod Places

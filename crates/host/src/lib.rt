@@ -6,6 +6,7 @@ mod declines;
 mod hosts;
 mod keys;
 mod pair;
+mod places;
 mod switch;
 mod table;
 
@@ -14,5 +15,6 @@ pub use declines::declined;
 pub use hosts::{Controls, Host, NoCommand};
 pub use keys::{ROWS, RowKey, is_row, row_key};
 pub use pair::{Pair, PairCommand};
+pub use places::Places;
 pub use switch::{Switch, SwitchCommand};
 pub use table::Table;

@@ -1,5 +1,5 @@
 -- A ledger's lines, in the order in which they were written. Assumes nothing.
-use Rattle.std.specs.Prelude.{◌≡◌, ℕ, Bool, true, false, cond, List, [], ◌∷◌, Some, None, fold, count_by, Option}
+use Rattle.std.specs.Prelude.{◌≡◌, ℕ, Bool, true, false, cond, List, [], ◌∷◌, suc, Some, None, fold, count_by, Option}
 use Rattle.values.specs.Numbers.{same_kind}
 use Rattle.values.specs.declared.Entry.{Entry}
 use Rattle.values.specs.declared.Kind.TheVariants.{Fee}
@@ -25,6 +25,16 @@ state_at Release = Void
 -- the last line of a row
 abbrev pub last_of : List Line → RowKey → Option Line
 last_of ls row = fold (λ found l. cond (same_row l.row row) (Some l) found) None ls
+
+-- a place among the lines after the first one counts one more here; where there is none, the first line may be it
+abbrev pub later_or : Bool → Option ℕ → Option ℕ
+later_or first (Some i) = Some (suc i)
+later_or first None = cond first (Some 0) None
+
+-- where the last line of a row stands
+abbrev pub last_place : List Line → RowKey → Option ℕ
+last_place [] row = None
+last_place (l ∷ ls) row = later_or (same_row l.row row) (last_place ls row)
 
 abbrev pub state_by : Option Line → HostState
 state_by None = Unknown

@@ -1,12 +1,13 @@
 // The ledger.
 ghost use Rattle.std.specs.Prelude.{◌≡◌, ◌*◌, ◌/◌, ◌≤◌, min, false, length, pos, ◌+ℤ◌, ◌≤ℤ◌, is_some};
 ghost use Rattle.host.specs.Keys.{RowKey, is_row};
+ghost use Rattle.host.specs.Places.{place_for};
 ghost use Rattle.host.specs.Table.{capacity_of};
-ghost use Rattle.ledger.specs.Lines.{last_of, begun_in, kept_by, lines_most};
+ghost use Rattle.ledger.specs.Lines.{last_of, last_place, begun_in, kept_by, lines_most};
 ghost use Rattle.ledger.specs.Fees.{posted, standing_fees, reserved};
 
 use crate::lines::Line;
-use host::Table;
+use host::{Places, Table};
 
 mod changes;
 pub(crate) mod hosting;
@@ -15,9 +16,11 @@ pub(crate) mod hosting;
 #[derive(Drop)]
 pub struct Ledger {
     table: Table<Line>,
+    places: Places,
     begun: usize,
     ghost within: { length table.used ≤ lines_most },
     ghost counted: { begun ≡ begun_in table.used },
+    ghost placed: { (row : RowKey) → place_for places row ≡ last_place table.used row },
     ghost few: { begun ≤ min lines_most (capacity_of table) / 3 },
     ghost rows: { (row : RowKey) → is_row row ≡ false → is_some (last_of table.used row) ≡ false },
     ghost reserve: { (pos (length table.used) +ℤ reserved table.used) ≤ℤ pos (3 * begun) },

@@ -1,6 +1,6 @@
-// A ledger's lines, how one of them is found, and their sum.
+// A ledger's lines and their sum.
 ghost use Rattle.std.specs.Prelude.{◌≡◌, ◌^◌, ◌≤◌, length, pos, neg_ℤ, ◌≤ℤ◌, if◌then◌else◌};
-ghost use Rattle.ledger.specs.Lines.{last_of, state_at, is_hold, lines_most};
+ghost use Rattle.ledger.specs.Lines.{state_at, is_hold, lines_most};
 ghost use Rattle.ledger.specs.Fees.{worth, posted, number_of};
 
 use host::RowKey;
@@ -80,13 +80,6 @@ fn number_of(entry: Entry) -> i64
     ensures high { result ≤ℤ pos (2 ^ 31) }
 {
     entry.number.map_or(0, i64::from)
-}
-
-// The last line of a row, looked for from the end.
-pub(crate) fn last(lines: &[Line], row: RowKey) -> Option<Line>
-    ensures { result ≡ last_of lines.now row }
-{
-    lines.iter().rev().find(|line| line.row == row).copied()
 }
 
 // Posts less contras.

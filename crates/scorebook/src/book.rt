@@ -1,10 +1,11 @@
 // The score book.
 ghost use Rattle.std.specs.Prelude.{◌≡◌, ◌≤◌, true, length};
-ghost use Rattle.host.specs.Keys.{rows_most};
-ghost use Rattle.scorebook.specs.Records.{well};
+ghost use Rattle.host.specs.Keys.{RowKey, rows_most};
+ghost use Rattle.host.specs.Places.{place_for};
+ghost use Rattle.scorebook.specs.Records.{place_in, well};
 
 use crate::records::Record;
-use host::Table;
+use host::{Places, Table};
 
 mod changes;
 pub(crate) mod hosting;
@@ -13,6 +14,8 @@ pub(crate) mod hosting;
 #[derive(Drop)]
 pub struct ScoreBook {
     table: Table<Record>,
+    places: Places,
     ghost within: { length table.used ≤ rows_most },
     ghost sound: { well table.used ≡ true },
+    ghost placed: { (row : RowKey) → place_for places row ≡ place_in table.used row },
 }

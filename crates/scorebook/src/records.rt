@@ -1,7 +1,4 @@
-// A score book's records, and how one of them is found.
-ghost use Rattle.std.specs.Prelude.{◌≡◌};
-ghost use Rattle.scorebook.specs.Records.{find_in, place_in};
-
+// A score book's records.
 use host::RowKey;
 use values::{Entry, HostState, Kind};
 
@@ -23,18 +20,4 @@ impl Record {
         },
         state: HostState::Unknown,
     };
-}
-
-// Where the record of a row stands.
-pub(crate) fn place(records: &[Record], row: RowKey) -> Option<usize>
-    ensures { result ≡ place_in records.now row }
-{
-    records.iter().position(|r| r.row == row)
-}
-
-// The record of a row.
-pub(crate) fn find(records: &[Record], row: RowKey) -> Option<Record>
-    ensures { result ≡ find_in records.now row }
-{
-    records.iter().find(|r| r.row == row).copied()
 }

@@ -8,6 +8,7 @@ ghost use Rattle.ledger.specs.Lines.{last_of, Follows, begun_in, is_hold};
 
 use crate::book::Ledger;
 use crate::lines::{LINES, Line, total};
+use host::RowKey;
 
 impl Ledger {
     /// The lines written so far, in the order in which they were written.
@@ -23,6 +24,14 @@ impl Ledger {
         ensures stands { result ≡ standing_fees (ledger_view self.now) }
     {
         total(self.lines())
+    }
+
+    // The last line of a row.
+    pub(super) fn last(&self, row: RowKey) -> Option<Line>
+        ensures { result ≡ last_of (lines_of self.now) row }
+    {
+        let i = self.places.get(row)?;
+        Some(self.table.used()[i])
     }
 
     // How many more rows may be begun.
@@ -42,6 +51,7 @@ impl Ledger {
         ensures rest { rest_of self.new ≡ drop 1 (rest_of self.old) }
         ensures free { free_of self.new ≡ free_of self.old - (if is_hold new.mark then 1 else 0) }
     {
+        self.places.set(new.row, self.table.used().len());
         self.table.push(new).unwrap();
         self.begun += new.mark.begins();
     }

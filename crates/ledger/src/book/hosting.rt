@@ -10,8 +10,8 @@ ghost use Rattle.ledger.specs.declared.lines.Mark.TheVariants.{Hold, Post, Contr
 ghost use Rattle.std.proofs.Common.{rules};
 
 use crate::book::Ledger;
-use crate::lines::{Line, Mark, last};
-use host::{Controls, Host, NoCommand, RowKey, Table, declined};
+use crate::lines::{Line, Mark};
+use host::{Controls, Host, NoCommand, Places, RowKey, Table, declined};
 use values::{Cause, Entry, Fault, HostState, Kind};
 
 impl Ledger {
@@ -24,6 +24,7 @@ impl Ledger {
     {
         Ledger {
             table: Table::new(table),
+            places: Places::new(),
             begun: 0,
         }
     }
@@ -32,7 +33,11 @@ impl Ledger {
     pub fn into_table(self) -> Vec<Line>
         ensures { result.items ≡ lines_of self ++ rest_of self }
     {
-        let Ledger { table, begun: _ } = self;
+        let Ledger {
+            table,
+            places: _,
+            begun: _,
+        } = self;
         table.into_items()
     }
 
@@ -42,7 +47,7 @@ impl Ledger {
         ensures does { Moves (state_at from) (state_at to) (ledger_view self.old) row result (ledger_view self.new) }
         ensures writes { Turns from to self.old self.new row }
     {
-        match last(self.lines(), row) {
+        match self.last(row) {
             Some(line) if line.mark == from => {
                 self.add(Line {
                     mark: to,
@@ -107,11 +112,12 @@ impl Host for Ledger {
     }
 
     fn state(&self, row: RowKey) -> HostState {
-        last(self.lines(), row).map_or(HostState::Unknown, |line| line.mark.state())
+        self.last(row)
+            .map_or(HostState::Unknown, |line| line.mark.state())
     }
 
     fn entry(&self, row: RowKey) -> Option<Entry> {
-        last(self.lines(), row).map(|line| line.entry)
+        self.last(row).map(|line| line.entry)
     }
 }
 

@@ -6,7 +6,7 @@ ghost use Rattle.scorebook.specs.Book.{records_of, rest_of, free_of};
 ghost use Rattle.scorebook.specs.Records.{find_in, turned};
 
 use crate::book::ScoreBook;
-use crate::records::{Record, place};
+use crate::records::Record;
 use host::{ROWS, RowKey};
 use values::HostState;
 
@@ -16,6 +16,14 @@ impl ScoreBook {
         ensures { result.now ≡ records_of self.now }
     {
         self.table.used()
+    }
+
+    // The record of a row.
+    pub(super) fn find(&self, row: RowKey) -> Option<Record>
+        ensures { result ≡ find_in (records_of self.now) row }
+    {
+        let i = self.places.get(row)?;
+        Some(self.table.used()[i])
     }
 
     // How many more records may be used.
@@ -36,6 +44,7 @@ impl ScoreBook {
         ensures rest { rest_of self.new ≡ drop 1 (rest_of self.old) }
         ensures free { free_of self.new ≡ free_of self.old - 1 }
     {
+        self.places.set(new.row, self.table.used().len());
         self.table.push(new).unwrap();
     }
 
@@ -46,7 +55,7 @@ impl ScoreBook {
         ensures rest { rest_of self.new ≡ rest_of self.old }
         ensures free { free_of self.new ≡ free_of self.old }
     {
-        if let Some(i) = place(self.records(), row) {
+        if let Some(i) = self.places.get(row) {
             let old = self.table.used()[i];
             self.table.set(i, Record { state: to, ..old });
         }

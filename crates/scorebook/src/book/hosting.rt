@@ -8,8 +8,8 @@ ghost use Rattle.scorebook.specs.Book.{book_view, records_of, rest_of, Adds, Tur
 ghost use Rattle.scorebook.specs.Sounds.{booked_sound};
 
 use crate::book::ScoreBook;
-use crate::records::{Record, find};
-use host::{Controls, Host, NoCommand, RowKey, Table};
+use crate::records::Record;
+use host::{Controls, Host, NoCommand, Places, RowKey, Table};
 use values::{Entry, Fault, HostState, Kind};
 
 impl ScoreBook {
@@ -22,6 +22,7 @@ impl ScoreBook {
     {
         ScoreBook {
             table: Table::new(table),
+            places: Places::new(),
         }
     }
 
@@ -29,7 +30,7 @@ impl ScoreBook {
     pub fn into_table(self) -> Vec<Record>
         ensures { result.items ≡ records_of self ++ rest_of self }
     {
-        let ScoreBook { table } = self;
+        let ScoreBook { table, places: _ } = self;
         table.into_items()
     }
 
@@ -96,11 +97,11 @@ impl Host for ScoreBook {
     }
 
     fn state(&self, row: RowKey) -> HostState {
-        find(self.records(), row).map_or(HostState::Unknown, |r| r.state)
+        self.find(row).map_or(HostState::Unknown, |r| r.state)
     }
 
     fn entry(&self, row: RowKey) -> Option<Entry> {
-        find(self.records(), row).map(|r| r.entry)
+        self.find(row).map(|r| r.entry)
     }
 }
 

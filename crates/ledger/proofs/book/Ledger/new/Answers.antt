@@ -1,9 +1,9 @@
 -- Without lines nothing is due and nothing stands.
-use Rattle.std.proofs.Common.{◌≡◌, ◌+ℤ◌, ◌≤ℤ◌, false, length, pos, is_some, sym, refl, ap, subst, arith}
+use Rattle.std.proofs.Common.{◌≡◌, ◌+ℤ◌, ◌≤ℤ◌, false, length, pos, is_some, sym, refl, ap, ◌∙◌, subst, arith}
 use Rattle.std.proofs.lemmas.Int.{ints}
 use Rattle.host.specs.Keys.{RowKey, is_row, rows_most}
 use Rattle.ledger.specs.Fees.{posted, standing_fees, reserved}
-use Rattle.ledger.specs.Lines.{last_of, begun_in, kept_by}
+use Rattle.ledger.specs.Lines.{last_of, last_place, begun_in, kept_by}
 use Rattle.ledger.proofs.Sums.{sum_none}
 use Rattle.ledger.proofs.book.Ledger.new.Goals as goal
 
@@ -15,6 +15,7 @@ invariant_of-result c =
     record {
       within = omega (arith, zero);
       counted = ap begun_in empty;
+      placed = λ n. c.new-2.ensures n ∙ ap (λ xs. last_place xs n) empty;
       few = omega arith;
       rows = subst (λ xs. (n : RowKey) → is_row n ≡ false → is_some (last_of xs n) ≡ false) empty (λ _ _. refl);
       reserve = subst (λ xs. (pos (length xs) +ℤ reserved xs) ≤ℤ pos 0) empty (omega (arith, ints, none));

@@ -10,7 +10,7 @@ pub returns-in-Some-clause-does : goal.returns-in-Some-clause-does
 returns-in-Some-clause-does c =
     let b = c.args.self.now in
     let p = c.in-Some.line in
-    let was : last_of (lines_of b) c.args.row ≡ Some p = sym (c.in-Some.ensures ∙ ap (λ xs. last_of xs c.args.row) c.lines.ensures) in
+    let was : last_of (lines_of b) c.args.row ≡ Some p = sym c.in-Some.ensures in
     let same : p.mark ≡ c.args.from = grind (arith, c.if-eq.ensures) in
     let none = none_begun c.args.from c.args.to c.requires in
     let free : free_of c.add.new.self ≡ free_of b = c.add.ensures.free ∙ ap (λ n. free_of b - n) none ∙ omega arith in

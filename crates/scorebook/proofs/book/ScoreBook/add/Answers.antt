@@ -1,14 +1,28 @@
--- One record more is in use.
-use Rattle.std.proofs.Common.{◌≡◌, ◌<◌, true, ◌++◌, ◌∷◌, [], length, sym, subst, arith}
+-- One record more is in use, and its row has a place.
+use Rattle.std.proofs.Common.{◌≡◌, ◌<◌, true, ◌++◌, ◌∷◌, [], length, length-append, sym, ap, ◌∙◌, subst, arith}
 use Rattle.host.proofs.Tables.{has_room, all_pushed}
-use Rattle.scorebook.specs.Records.{well}
+use Rattle.host.specs.Places.{places_most}
+use Rattle.scorebook.specs.Records.{well, place_in}
+use Rattle.scorebook.proofs.Placed.{placed_push}
 use Rattle.scorebook.proofs.Turned.{well_push}
 use Rattle.scorebook.proofs.book.ScoreBook.add.Goals as goal
 
-pub invariant_of-self-clause-sound : goal.invariant_of-self-clause-sound
-invariant_of-self-clause-sound c =
-    let t = c.args.self.now.table in
-    let room : 0 < length t.rest = omega (arith, c.requires.space) in
-    let more = all_pushed (t.used ++ c.args.new ∷ []) t.used (has_room room c.push.ensures.test) c.push.ensures.used in
-    subst (λ xs. well xs ≡ true) (sym more)
-    (well_push _ c.args.new c.args.self.now.sound c.requires.row c.requires.known c.requires.unused)
+pub invariant_of-self : goal.invariant_of-self
+invariant_of-self c =
+    let b = c.args.self.now in
+    let xs = b.table.used in
+    let new = c.args.new in
+    let room : 0 < length b.table.rest = omega (arith, c.requires.space) in
+    let more = all_pushed (xs ++ new ∷ []) xs (has_room room c.push.ensures.test) c.push.ensures.used in
+    let one = ap length more ∙ length-append xs (new ∷ []) in
+    let last = ap length c.used.ensures in
+    let few : length c.used.result.now < places_most = omega (arith, last, b.within) in
+    record {
+      within = omega (arith, one, c.requires.space);
+      sound =
+          subst (λ ys. well ys ≡ true) (sym more)
+          (well_push xs new b.sound c.requires.row c.requires.known c.requires.unused);
+      placed = λ n.
+          placed_push xs new n _ _ _ c.requires.row last few c.requires.unused (b.placed n) (c.set.ensures n)
+          ∙ ap (λ ys. place_in ys n) (sym more);
+    }
