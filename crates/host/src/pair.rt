@@ -72,11 +72,7 @@ impl<X: Host, Y: Host> Host for Pair<X, Y> {
     }
 
     fn entry(&self, row: RowKey) -> Option<Entry> {
-        if self.first.state(row) == HostState::Unknown {
-            self.second.entry(row)
-        } else {
-            self.first.entry(row)
-        }
+        self.first.entry(row).or_else(|| self.second.entry(row))
     }
 }
 
@@ -126,11 +122,14 @@ impl<X: Host, Y: Host> Pair<X, Y> {
     fn is_for_first(&self, call: Call) -> bool
         ensures { result ≡ for_first self.now.kind (X.Host.view self.now.first) (Y.Host.view self.now.second) call }
     {
+        if self.first.state(call.row()) != HostState::Unknown {
+            return true;
+        }
         match call {
-            Call::Begin(row, entry) if self.state(row) == HostState::Unknown => {
-                self.takes_first(entry.kind)
+            Call::Begin(row, entry) => {
+                self.takes_first(entry.kind) && self.second.state(row) == HostState::Unknown
             }
-            _ => self.first.state(call.row()) != HostState::Unknown,
+            _ => false,
         }
     }
 
