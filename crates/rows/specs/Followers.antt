@@ -1,39 +1,26 @@
 -- The sets that a table keeps beside its rows. Assumes nothing.
-use Rattle.std.specs.Prelude.{◌≡◌, ℕ, ◌≤◌, List, [], length, vec_items, vec_len, vec_capacity}
+use Rattle.std.specs.Prelude.{◌≡◌, ℕ, ◌≤◌, List, length, vec_items, vec_len, vec_capacity}
 use Rattle.std.proofs.Math.Bool.{Bool-set}
 use Rattle.std.proofs.Math.Bridge.{le_prop}
 use Rattle.std.proofs.Math.Nat.{ℕ_set}
-use Rattle.values.specs.declared.RowState.TheVariants.{Due}
-use Rattle.values.specs.Numbers.{same_state}
 use Rattle.model.specs.Search.{has}
 use Rattle.rowset.specs.declared.RowSet.{RowSet}
 use Rattle.rowset.specs.Members.{contains}
 use Rattle.rows.specs.declared.row.Row.{Row}
 use Rattle.rows.specs.declared.table.Sets.{Sets}
-use Rattle.rows.specs.Columns.{item_at, row_at, preds_of}
-
--- no row, where there is no set
-abbrev pub no_set : RowSet
-no_set = record { words = [] }
-
--- the set of row k, counted from 1
-abbrev pub set_at : List RowSet → ℕ → RowSet
-set_at sets k = item_at no_set sets k
+use Rattle.rows.specs.Columns.{preds_of}
+use Rattle.rows.specs.States.{set_at, HaveStates}
 
 -- the set of each row has the rows that follow it by one arrow, and no others
 abbrev pub HaveFollowers : List RowSet → (ℕ → List ℕ) → Type 0
 HaveFollowers sets preds = (k v : ℕ) → contains (set_at sets k) v ≡ has k (preds v)
-
--- a set has the rows that are due, and no others
-abbrev pub HasDue : RowSet → List Row → Type 0
-HasDue set rows = (k : ℕ) → contains set k ≡ same_state (row_at rows k).state Due
 
 -- the sets have what they are to have of the rows, and places for all that can be added
 pub record Told (sets : Sets) (rows : List Row) : Type 0 where
   pub followers : HaveFollowers (vec_items sets.followers) (preds_of rows)
   pub level : vec_len sets.followers ≡ length rows
   pub places : 256 ≤ vec_capacity sets.followers
-  pub due : HasDue sets.due rows
+  pub states : HaveStates sets.states rows
 
 -- the same as a word that does not unfold by itself: a search for a proof would else go through it wherever a table stands
 unfoldable pub Tell : Sets → List Row → Type 0
@@ -45,5 +32,5 @@ Tell-prop sets rows a b i = record {
   followers = λ k v. Bool-set _ _ (a.followers k v) (b.followers k v) i;
   level = ℕ_set _ _ a.level b.level i;
   places = le_prop a.places b.places i;
-  due = λ k. Bool-set _ _ (a.due k) (b.due k) i;
+  states = λ st k. Bool-set _ _ (a.states st k) (b.states st k) i;
 }

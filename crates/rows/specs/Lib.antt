@@ -4,5 +4,6 @@ pub mod Columns
 pub mod Followers
 pub mod Linked
 pub mod Marking
+pub mod States
 pub mod Steps
 pub mod Tables

@@ -5,7 +5,7 @@ use Rattle.model.specs.Rollback.{linked}
 use Rattle.model.specs.Rows.{Rows, in_state}
 use Rattle.rowset.specs.declared.RowSet.{RowSet}
 use Rattle.rowset.specs.Members.{contains}
-use Rattle.rows.specs.Followers.{no_set}
+use Rattle.rows.specs.States.{no_set}
 
 -- the set at a place, counted from 0
 abbrev pub links_at : List RowSet → ℕ → RowSet

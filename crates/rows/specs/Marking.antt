@@ -1,9 +1,9 @@
 -- What is marked once a table's rows were walked. Assumes nothing.
-use Rattle.std.specs.Prelude.{◌≡◌, ℕ, ◌+◌, ◌<◌, Bool, true, cond, ◌&&◌, ◌||◌, List, length, is_ok, Option, Result, MatchResult, nat_lt, slice_index}
+use Rattle.std.specs.Prelude.{◌≡◌, ℕ, ◌+◌, Bool, true, false, ◌&&◌, ◌||◌, List, is_ok, Option, Result, MatchResult, nat_lt}
 use Rattle.values.specs.declared.Mode.{Mode}
-use Rattle.values.specs.declared.RowState.TheVariants.{Committed, Due}
+use Rattle.values.specs.declared.Mode.TheVariants.{Complete, Partial}
+use Rattle.values.specs.declared.RowState.TheVariants.{Due}
 use Rattle.graph.specs.Column.{marked}
-use Rattle.graph.specs.Reach.{Within}
 use Rattle.graph.specs.Scratch.{SameLoans, Untouched}
 use Rattle.graph.specs.declared.scratch.Scratch.{Scratch}
 use Rattle.model.specs.Calls.{lowest_row}
@@ -11,21 +11,14 @@ use Rattle.model.specs.Chart.{Chart}
 use Rattle.model.specs.Rollback.{after, backward, strikes}
 use Rattle.model.specs.Rows.{Rows, in_state}
 use Rattle.model.specs.Search.{any_below}
+use Rattle.rowset.specs.declared.RowSet.{RowSet}
+use Rattle.rowset.specs.Members.{contains}
 
 -- what a walk leaves of the memory that it is lent: it was done where there was room, and else that is as it was
 pub record Walked {T E : Type 0} (r : Result T E) (room : Bool) (Done : T → Type 0) (before after : Scratch) : Type 0 where
   pub test : is_ok r ≡ room
   pub answer : MatchResult r Done (λ _. Untouched before after)
   pub loans : SameLoans before after
-
--- an array of 256 numbers that has each number from 1 to 256 that passes the test at its place, and 0 at the others
-pub record Passing (p : ℕ → Bool) (xs : List ℕ) : Type 0 where
-  pub size : length xs ≡ 256
-  pub each : (i : ℕ) → i < 256 → slice_index xs i ≡ cond (p (i + 1)) (i + 1) 0
-
--- each row is marked
-abbrev pub AllMarked : Rows → List ℕ → Type 0
-AllMarked r xs = (k : ℕ) → Within r.count k → marked xs k ≡ true
 
 -- the backward part of f is marked
 abbrev pub BackwardMarked : Chart → Rows → ℕ → List ℕ → Type 0
@@ -35,9 +28,18 @@ BackwardMarked c r f xs = (u : ℕ) → marked xs u ≡ backward c r f u
 abbrev pub PartMarked : Chart → Rows → ℕ → List ℕ → Type 0
 PartMarked c r f xs = (k : ℕ) → marked xs k ≡ (backward c r f k || after r (backward c r f) k)
 
--- the committed rows that are marked are those that the abort strikes
-abbrev pub StruckMarked : Chart → Rows → Mode → List ℕ → Type 0
-StruckMarked c r m xs = (k : ℕ) → (in_state r Committed k && marked xs k) ≡ strikes c r m k
+-- the members are the backward part of f
+abbrev pub HasBackward : Chart → Rows → ℕ → RowSet → Type 0
+HasBackward c r f set = (u : ℕ) → contains set u ≡ backward c r f u
+
+-- the members are the rows that the abort strikes
+abbrev pub HasStruck : Chart → Rows → Mode → RowSet → Type 0
+HasStruck c r m set = (k : ℕ) → contains set k ≡ strikes c r m k
+
+-- whether rows are walked for an abort: not where it is complete
+abbrev pub is_partial : Mode → Bool
+is_partial Complete = false
+is_partial (Partial f) = true
 
 -- a row above k is due
 abbrev pub due_above : Rows → ℕ → Bool

@@ -6,7 +6,7 @@ ghost use Rattle.graph.specs.Scratch.{roomy_in};
 ghost use Rattle.model.specs.Rollback.{uncut};
 ghost use Rattle.model.specs.Rows.{Rows};
 ghost use Rattle.model.specs.Search.{has};
-ghost use Rattle.rows.specs.Arrows.{Drawn, forth, back, passed_preds};
+ghost use Rattle.rows.specs.Arrows.{Drawn, forth, back};
 ghost use Rattle.rows.specs.Marking.{Walked};
 ghost use Rattle.rows.specs.Steps.{steps_only};
 ghost use Rattle.rows.specs.Tables.{rows_of};
@@ -15,7 +15,6 @@ use crate::table::RowTable;
 use graph::reach::{Graph, NoRoom, reach};
 use graph::scratch::Scratch;
 use process::parts::Step;
-use values::RowState;
 
 /// Arrows between the rows of a table, in either direction.
 pub(crate) trait Arrows: Drop {
@@ -87,17 +86,6 @@ pub(crate) struct BackToSavepoints<'a> {
     pub(crate) steps: &'a [Step],
 }
 
-/// From each row that is passed over to its predecessors.
-#[derive(Drop)]
-pub(crate) struct BackOverPassed;
-
-/// The least number of a list that is above `after`.
-fn least_above(list: &[u16], after: u16) -> Option<u16>
-    ensures { Least (λ k. has k list.now ≡ true) after result }
-{
-    list.iter().copied().filter(|&k| k > after).min()
-}
-
 impl Arrows for Forth {
     ghost leads = { λ _ r. forth r.preds };
 
@@ -110,17 +98,12 @@ impl Arrows for BackToSavepoints<'_> {
     ghost leads = { λ a r. back (uncut (steps_only a.steps.now) r) };
 
     fn next(&self, table: &RowTable, from: u16, after: u16) -> Option<u16> {
-        least_above(table.uncut(self.steps, from).as_slice(), after)
-    }
-}
-
-impl Arrows for BackOverPassed {
-    ghost leads = { λ _ r. back (passed_preds r) };
-
-    fn next(&self, table: &RowTable, from: u16, after: u16) -> Option<u16> {
-        if !table.is_in(RowState::PassedOver, from) {
-            return None;
-        }
-        least_above(table.predecessors(from), after)
+        let steps = self.steps;
+        table
+            .predecessors(from)
+            .iter()
+            .copied()
+            .filter(|&k| k > after && !table.is_savepoint(steps, k))
+            .min()
     }
 }

@@ -1,8 +1,10 @@
 // Questions on the paths between rows.
-ghost use Rattle.std.specs.Prelude.{◌≡◌, ℕ, ◌<◌, ◌≤◌, true, not, ◌||◌};
+ghost use Rattle.std.specs.Prelude.{◌≡◌, ℕ, ◌<◌, true, not, ◌||◌};
 ghost use Rattle.graph.specs.Held.{held};
 ghost use Rattle.graph.specs.Scratch.{roomy_in};
 ghost use Rattle.model.specs.Calls.{due_after};
+ghost use Rattle.values.specs.declared.RowState.TheVariants.{PassedOver};
+ghost use Rattle.model.specs.Rows.{in_state};
 ghost use Rattle.rows.specs.Marking.{Walked, due_above, lowest_due};
 ghost use Rattle.rows.specs.Linked.{HasLinks, brings, links_at};
 ghost use Rattle.rowset.specs.Members.{is_number, contains};
@@ -28,7 +30,15 @@ impl RowTable {
     fn lowest_due(&self, row: u16, marks: &Marks) -> Option<u16>
         ensures { result ≡ lowest_due (rows_of self.now) row (held marks.now) }
     {
-        self.above(row).find(|&k| self.is_in(RowState::Due, k) && marks.is_set(k as usize))
+        let due = self.rows_in(RowState::Due);
+        let mut last = row;
+        while let Some(k) = due.next_above(last) {
+            if marks.is_set(usize::from(k)) {
+                return Some(k);
+            }
+            last = k;
+        }
+        None
     }
 
     /// The lowest due row after this one. Rows after it have higher numbers: where none of these is due, no room is
@@ -48,7 +58,8 @@ impl RowTable {
     /// Adds a row, and if it is passed over what is linked to it.
     fn add_links(&self, row: u16, known: &[RowSet; 257], links: &mut RowSet)
         requires row { is_number row ≡ true }
-        requires known { HasLinks (rows_of self.now) row (links_at known.now row) }
+        requires known { in_state (rows_of self.now) PassedOver row ≡ true
+            → HasLinks (rows_of self.now) row (links_at known.now row) }
         ensures { (u : ℕ) → contains links.new u ≡ (contains links.old u || brings (rows_of self.now) row u) }
     {
         links.insert(row);
@@ -57,9 +68,10 @@ impl RowTable {
         }
     }
 
-    /// The rows linked to a row, where those linked to each lower row are known.
+    /// The rows linked to a row, where those linked to each lower row that is passed over are known.
     fn links_of(&self, row: u16, known: &[RowSet; 257]) -> RowSet
-        requires { (q : ℕ) → q < row → HasLinks (rows_of self.now) q (links_at known.now q) }
+        requires { (q : ℕ) → q < row → in_state (rows_of self.now) PassedOver q ≡ true
+            → HasLinks (rows_of self.now) q (links_at known.now q) }
         ensures { HasLinks (rows_of self.now) row result }
     {
         let mut links = RowSet::new();
@@ -69,13 +81,18 @@ impl RowTable {
         links
     }
 
-    /// The rows linked to each row, by its number.
-    pub fn links(&self) -> [RowSet; 257]
-        ensures { (v : ℕ) → v ≤ (rows_of self.now).count → HasLinks (rows_of self.now) v (links_at result v) }
+    /// The rows linked to each row of a set, by its number.
+    // those linked to rows that are passed over are found too: links lead through them
+    pub fn links(&self, rows: &RowSet) -> [RowSet; 257]
+        ensures { (v : ℕ) → contains rows.now v ≡ true → HasLinks (rows_of self.now) v (links_at result v) }
     {
         let mut links = [RowSet::new(); 257];
-        for row in 0..self.len() + 1 {
+        let mut wanted = self.rows_in(RowState::PassedOver);
+        wanted.join(rows);
+        let mut last = 0;
+        while let Some(row) = wanted.next_above(last) {
             links[row as usize] = self.links_of(row, &links);
+            last = row;
         }
         links
     }

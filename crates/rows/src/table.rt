@@ -7,6 +7,7 @@ ghost use Rattle.rows.specs.Followers.{Tell, Tell-prop};
 use crate::row::Row;
 use rowset::RowSet;
 
+mod by_state;
 mod falls;
 mod reads;
 pub(crate) mod searches;
@@ -19,11 +20,12 @@ const MOST_ROWS: usize = 256;
 #[derive(Clone, Copy, PartialEq, Eq, Debug, Drop)]
 pub struct Unfit;
 
-/// The sets that searches of a table's rows go through: the followers of each row by one arrow, and the due rows.
+/// The sets that searches of a table's rows go through: the followers of each row by one arrow, and the rows in each
+/// state but absent, by the state's number.
 #[derive(Drop)]
 struct Sets {
     followers: Vec<RowSet>,
-    due: RowSet,
+    states: [RowSet; 6],
 }
 
 /// The rows of a sheet, numbered from 1, and sets of them.

@@ -78,6 +78,14 @@ impl RowSet {
         self.words = std::array::from_fn(|i| words[i] | other.words[i]);
     }
 
+    /// Keeps only the members of another set.
+    pub fn meet(&mut self, other: &RowSet)
+        ensures { (k : ℕ) → contains self.new k ≡ (contains self.old k && contains other.now k) }
+    {
+        let words = self.words;
+        self.words = std::array::from_fn(|i| words[i] & other.words[i]);
+    }
+
     /// The least member above a number.
     pub fn next_above(&self, number: u16) -> Option<u16>
         ensures { Least (λ k. contains self.now k ≡ true) number result }

@@ -2,6 +2,7 @@
 ghost use Rattle.std.specs.Prelude.{◌≡◌, length};
 ghost use Rattle.graph.specs.Column.{covered, marked, with_mark, Kept, Wiped};
 ghost use Rattle.graph.specs.Held.{held};
+ghost use Rattle.graph.specs.Reach.{Least};
 
 use super::{Marks, mark_bytes, wipe};
 
@@ -27,6 +28,18 @@ impl<'a> Marks<'a> {
         ensures { result ≡ marked (held self.now) i }
     {
         self.covers(i) && self.column[i] != 0
+    }
+
+    /// The least marked point above `after`.
+    pub fn next_set(&self, after: usize) -> Option<usize>
+        ensures { Least (λ k. marked (held self.now) k ≡ true) after result }
+    {
+        for i in after.saturating_add(1)..mark_bytes(self.column) {
+            if self.column[i] != 0 {
+                return Some(i);
+            }
+        }
+        None
     }
 
     /// Marks the point `i`; changes nothing where the column has no mark for it.

@@ -1,5 +1,5 @@
 // The rows searched.
-ghost use Rattle.std.specs.Prelude.{◌≡◌, ◌+◌, true, ◌&&◌, ◌==◌};
+ghost use Rattle.std.specs.Prelude.{◌≡◌, ℕ, ◌+◌, true, ◌&&◌, ◌==◌};
 ghost use Rattle.values.specs.declared.RowState.{RowState as State};
 ghost use Rattle.values.specs.declared.RowState.TheVariants.{Due};
 ghost use Rattle.graph.specs.Reach.{Least};
@@ -7,12 +7,25 @@ ghost use Rattle.model.specs.Search.{any_below, has};
 ghost use Rattle.model.specs.Chart.{by_flow};
 ghost use Rattle.model.specs.Rows.{in_state, live, any_live};
 ghost use Rattle.model.specs.Calls.{lowest_row};
+ghost use Rattle.rowset.specs.Members.{contains};
 ghost use Rattle.rows.specs.Tables.{rows_of};
 ghost use Rattle.rows.specs.Columns.{follows};
+ghost use Rattle.rows.specs.States.{row_in};
 
 use super::RowTable;
 use crate::counted::numbered;
+use rowset::RowSet;
 use values::{Flow, RowState};
+
+// Whether a row of one step uses up an exit, which takes one branch or all of them, for a row of another.
+fn uses_exit(exit: Flow, of: u16, step: u16) -> bool
+    ensures { result ≡ by_flow exit true (of == step) }
+{
+    match exit {
+        Flow::One => true,
+        Flow::All => of == step,
+    }
+}
 
 impl RowTable {
     /// Whether a row is in that state.
@@ -22,54 +35,61 @@ impl RowTable {
         self.state(number) == state
     }
 
-    /// Whether a row is live: running or committed.
-    pub fn is_live(&self, number: u16) -> bool
-        ensures { result ≡ live ((rows_of self.now).state number) }
+    // The live rows: those that run and those that are committed.
+    fn live(&self) -> RowSet
+        ensures { (k : ℕ) → contains result k ≡ live ((rows_of self.now).state k) }
     {
-        matches!(self.state(number), RowState::Running | RowState::Committed)
+        let mut live = self.rows_in(RowState::Running);
+        live.join(&self.rows_in(RowState::Committed));
+        live
     }
 
     /// Whether any row is live.
     pub fn any_live(&self) -> bool
         ensures { result ≡ any_live (rows_of self.now) }
     {
-        (0..self.len() + 1).any(|number| self.is_live(number))
+        self.live().next_above(0).is_some()
     }
 
     /// The lowest row in that state.
     pub fn lowest(&self, state: RowState) -> Option<u16>
-        ensures { result ≡ lowest_row (rows_of self.now) (in_state (rows_of self.now) state) }
+        ensures { result ≡ lowest_row (rows_of self.now) (row_in (rows_of self.now) state) }
     {
-        (0..self.len() + 1).find(|&number| self.is_in(state, number))
+        self.rows_in(state).next_above(0)
+    }
+
+    // The rows that follow a row by one arrow.
+    fn followers(&self, earlier: u16) -> RowSet
+        ensures { (k : ℕ) → contains result k ≡ has earlier ((rows_of self.now).preds k) }
+    {
+        match numbered(&self.sets.followers, earlier) {
+            Some(followers) => *followers,
+            None => RowSet::new(),
+        }
     }
 
     /// The lowest row above `after` that follows row `earlier` by one arrow.
     pub(crate) fn next_follower(&self, earlier: u16, after: u16) -> Option<u16>
         ensures { Least (λ k. has earlier ((rows_of self.now).preds k) ≡ true) after result }
     {
-        match numbered(&self.sets.followers, earlier) {
-            Some(followers) => followers.next_above(after),
-            None => None,
-        }
+        self.followers(earlier).next_above(after)
     }
 
     /// The lowest due row above `after`.
     pub(crate) fn next_due(&self, after: u16) -> Option<u16>
         ensures { Least (λ k. in_state (rows_of self.now) Due k ≡ true) after result }
     {
-        self.sets.due.next_above(after)
+        self.rows_in(RowState::Due).next_above(after)
     }
 
-    // Whether a follower is live, and uses an exit up for a row of the step.
-    fn uses_exit(&self, exit: Flow, step: u16, follower: u16) -> bool
-        ensures { result ≡ (live ((rows_of self.now).state follower)
-            && by_flow exit true ((rows_of self.now).step follower == step)) }
+    // The live rows that follow a row by one arrow.
+    fn live_followers(&self, earlier: u16) -> RowSet
+        ensures { (k : ℕ) → contains result k
+            ≡ (live ((rows_of self.now).state k) && has earlier ((rows_of self.now).preds k)) }
     {
-        self.is_live(follower)
-            && match exit {
-                Flow::One => true,
-                Flow::All => self.step(follower) == step,
-            }
+        let mut live = self.live();
+        live.meet(&self.followers(earlier));
+        live
     }
 
     /// Whether the exit of a row, which takes one branch or all of them, is used up for a row of the step.
@@ -77,9 +97,10 @@ impl RowTable {
         ensures { result ≡ any_below ((rows_of self.now).count + 1)
             (follows (rows_of self.now) exit step number) }
     {
+        let followers = self.live_followers(number);
         let mut after = 0;
-        while let Some(follower) = self.next_follower(number, after) {
-            if self.uses_exit(exit, step, follower) {
+        while let Some(follower) = followers.next_above(after) {
+            if uses_exit(exit, self.step(follower), step) {
                 return true;
             }
             after = follower;

@@ -8,6 +8,7 @@ ghost use Rattle.rows.specs.Columns.{fits};
 ghost use Rattle.rows.specs.Followers.{set_at};
 ghost use Rattle.rows.specs.Tables.{rows_of, rolled_of};
 
+use super::by_state::put_in;
 use super::{MOST_ROWS, RowTable, Sets, Unfit};
 use crate::row::{Row, first_eight};
 use rowset::RowSet;
@@ -35,8 +36,8 @@ impl RowTable {
     {
         let rows = Vec::with_capacity(heap, MOST_ROWS)?;
         let followers = Vec::with_capacity(heap, MOST_ROWS)?;
-        let due = RowSet::new();
-        let sets = Sets { followers, due };
+        let states = [RowSet::new(); 6];
+        let sets = Sets { followers, states };
         Ok(RowTable { rows, sets })
     }
 
@@ -47,12 +48,14 @@ impl RowTable {
             (marked (rows_of self.old) number to) }
         ensures rolled { rolled_of self.new ≡ rolled_of self.old }
     {
-        if self.is_in(RowState::Absent, number) {
+        let from = self.state(number);
+        if from == RowState::Absent {
             return;
         }
         // the row is there: a `get_mut` would look again
         self.rows[number as usize - 1].state = to;
-        self.sets.due.put(number, to == RowState::Due);
+        put_in(&mut self.sets.states, from, number, false);
+        put_in(&mut self.sets.states, to, number, true);
     }
 
     /// Whether a row that follows these can be added: there is a place, and they are at most eight of the rows.
@@ -79,6 +82,7 @@ impl RowTable {
         }
         let row = self.len() + 1;
         add_follower(&mut self.sets.followers, predecessors, row);
+        put_in(&mut self.sets.states, RowState::Running, row, true);
         self.sets.followers.push_reserved(RowSet::new());
         self.rows.push_reserved(Row {
             step,

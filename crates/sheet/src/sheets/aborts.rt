@@ -22,25 +22,21 @@ use host::{Host, row_key};
 use values::{Cause, Fault, HostState, Layer, Mode, Phase, RowState};
 
 impl Sheet {
-    // Whether the row runs, and is not open at the host.
-    fn is_not_open<X: Host>(&self, host: &X, row: u16) -> bool
-        ensures { result ≡ not_open (sheet_of self.now).rows (X.Host.view host.now) row }
-    {
-        self.table.is_in(RowState::Running, row) && host.state(row_key(row)) != HostState::Open
-    }
-
     // The lowest running row that is not open at the host.
     fn lowest_not_open<X: Host>(&self, host: &X) -> Option<u16>
         ensures { result ≡ lowest_row (sheet_of self.now).rows
             (not_open (sheet_of self.now).rows (X.Host.view host.now)) }
     {
         // the project fixes a labelled search here
+        let running = self.table.rows_in(RowState::Running);
         let mut found = None;
-        'rows: for row in 1..=self.table.len() {
-            if self.is_not_open(host, row) {
+        let mut last = 0;
+        'rows: while let Some(row) = running.next_above(last) {
+            if host.state(row_key(row)) != HostState::Open {
                 found = Some(row);
                 break 'rows;
             }
+            last = row;
         }
         found
     }
@@ -63,10 +59,11 @@ impl Sheet {
         ensures drops { X.Host.view host.new ≡ all_dropped (sheet_of self.now).rows (X.Host.view host.old) }
         ensures switches { X.Host.switches host.new ≡ X.Host.switches host.old }
     {
-        for row in 1..=self.table.len() {
-            if self.table.is_in(RowState::Running, row) {
-                host.drop_row(row_key(row)).unwrap();
-            }
+        let running = self.table.rows_in(RowState::Running);
+        let mut last = 0;
+        while let Some(row) = running.next_above(last) {
+            host.drop_row(row_key(row)).unwrap();
+            last = row;
         }
     }
 
@@ -104,13 +101,13 @@ impl Sheet {
         ensures process { self.new.process ≡ self.old.process }
         ensures loans { SameLoans scratch.old scratch.new }
     {
-        self.table
-            .mark_struck(self.process.steps(), mode, scratch)
+        let struck = self
+            .table
+            .struck(self.process.steps(), mode, scratch)
             .unwrap();
         self.drop_running(host);
         let rollback = self.rollback + 1;
-        self.table
-            .fall(self.process.steps(), scratch.marks, rollback);
+        self.table.fall(self.process.steps(), &struck, rollback);
         self.phase = Phase::Undoing;
         self.rollback = rollback;
         self.mode = mode;
