@@ -1,19 +1,20 @@
 -- What the parts of a listing put into its tables. Assumes nothing.
-use Rattle.std.specs.Prelude.{◌≡◌, ℕ, ◌+◌, Bool, cond, ◌&&◌, List, [], ◌∷◌, length, Option, slice_set}
+use Rattle.std.specs.Prelude.{◌≡◌, ℕ, ◌+◌, Bool, cond, ◌&&◌, List, [], ◌∷◌, ◌++◌, length, Option, slice_set}
 use Rattle.values.specs.Checks.{bad}
 use Rattle.values.specs.Numbers.{phase_number, same_phase}
 use Rattle.values.specs.declared.Cause.TheVariants.{WrongPhase}
 use Rattle.values.specs.declared.Fault.{Fault}
 use Rattle.values.specs.declared.Layer.TheVariants.{Sheet as OfSheet}
-use Rattle.values.specs.declared.Mode.{Mode}
-use Rattle.values.specs.declared.Mode.TheVariants.{Complete, Partial}
 use Rattle.values.specs.declared.Phase.TheVariants.{Forward}
 use Rattle.values.specs.declared.RowArrow.{RowArrow}
 use Rattle.model.specs.Chart.{Chart}
-use Rattle.model.specs.Rollback.{linked}
+use Rattle.model.specs.Rollback.{behind, linked}
 use Rattle.model.specs.Rows.{Rows}
-use Rattle.model.specs.Sheet.{Sheet, in_graph, arrows_from}
-use Rattle.rows.specs.Marking.{BackwardMarked}
+use Rattle.model.specs.Search.{all_below}
+use Rattle.model.specs.Sheet.{Sheet, in_graph}
+use Rattle.rowset.specs.declared.RowSet.{RowSet}
+use Rattle.rowset.specs.Members.{contains}
+use Rattle.sheet.specs.declared.sheets.listings.Points.{Points}
 
 -- a table with a list put into it from a place on, as far as the table goes
 abbrev pub put_all : {X : Type 0} → List X → ℕ → List X → List X
@@ -25,10 +26,17 @@ pub record Puts {X : Type 0} (xs : List X) (at : ℕ) (table : List X) (next : �
   pub place : next ≡ at + length xs
   pub written : table' ≡ put_all xs at table
 
--- the marks by which the restart points are found: the backward part of the failing row where the last abort was partial
-abbrev pub PointMarks : Chart → Rows → Mode → List ℕ → Type 0
-PointMarks c r Complete xs = Unit {0}
-PointMarks c r (Partial f) xs = BackwardMarked c r f xs
+-- the members are the rows of the graph
+abbrev pub HasGraph : Sheet → RowSet → Type 0
+HasGraph s set = (k : ℕ) → contains set k ≡ in_graph s k
+
+-- the members are the failing row and its backward part
+abbrev pub HasBehind : Chart → Rows → ℕ → RowSet → Type 0
+HasBehind c r f set = (k : ℕ) → contains set k ≡ behind c r f k
+
+-- restart points as a list, rising
+abbrev pub listed : Points → List ℕ
+listed p = cond p.start (0 ∷ []) [] ++ all_below 257 (contains p.stops)
 
 -- an element, if it is wanted
 abbrev pub only_if : {X : Type 0} → Bool → X → List X
@@ -37,10 +45,6 @@ only_if b x = cond b (x ∷ []) []
 -- an arrow from v, which is in the graph, leads to u
 abbrev pub ends : Sheet → ℕ → ℕ → Bool
 ends s v u = in_graph s u && linked s.rows u v
-
--- the arrows from v; none where it is not in the graph
-abbrev pub arrows_at : Sheet → ℕ → List RowArrow
-arrows_at s v = cond (in_graph s v) (arrows_from s v) []
 
 -- a sheet that goes forward has no graph
 abbrev pub graph_check : Sheet → Option Fault

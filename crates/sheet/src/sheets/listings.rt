@@ -1,17 +1,18 @@
 // The listing: the compensating graph, and where the competition may go on.
-ghost use Rattle.std.specs.Prelude.{◌≡◌, ℕ, ◌+◌, ◌^◌, ◌<◌, ◌≤◌, true, false, ◌&&◌, length};
+ghost use Rattle.std.specs.Prelude.{◌≡◌, ℕ, ◌+◌, ◌^◌, ◌<◌, true, false, ◌&&◌, ◌==◌, length};
 ghost use Rattle.graph.specs.Held.{held};
 ghost use Rattle.graph.specs.Scratch.{SameLoans};
 ghost use Rattle.process.specs.Accepted.{enough};
-ghost use Rattle.model.specs.Search.{any_below, all_below, has};
-ghost use Rattle.model.specs.Rollback.{behind, stopped, at_start, restart_points};
-ghost use Rattle.model.specs.Sheet.{in_graph, arrows_from, graph_arrows};
+ghost use Rattle.model.specs.Search.{any_below};
+ghost use Rattle.model.specs.Rows.{is_savepoint};
+ghost use Rattle.model.specs.Rollback.{stopped, restart_points};
+ghost use Rattle.model.specs.Sheet.{arrows_from, graph_arrows};
 ghost use Rattle.model.specs.Run.{column_after};
+ghost use Rattle.rowset.specs.Members.{is_number, contains};
 ghost use Rattle.rows.specs.Linked.{HasLinks, links_at};
-ghost use Rattle.rows.specs.Marking.{BackwardMarked};
 ghost use Rattle.values.specs.Checks.{answer};
 ghost use Rattle.values.specs.declared.Mode.TheVariants.{Partial};
-ghost use Rattle.sheet.specs.Listings.{arrows_at, graph_check, PointMarks, Puts};
+ghost use Rattle.sheet.specs.Listings.{graph_check, HasBehind, HasGraph, Puts, ends, listed};
 ghost use Rattle.sheet.specs.Reports.{Lists, points_of};
 ghost use Rattle.sheet.specs.SheetOf.{sheet_of, chart_of};
 
@@ -26,6 +27,7 @@ use values::{Cause, Fault, Layer, Mode, Phase, RowArrow, RowState};
 // Each function that puts something into a table gives the next place of it. A table that is too short is written as far as
 // it goes, so with an empty one the same functions count.
 
+// Where the competition may go on: at the start, and at the savepoints that stopped the way back.
 #[derive(Drop)]
 struct Points {
     start: bool,
@@ -33,7 +35,10 @@ struct Points {
 }
 
 impl Points {
-    fn put(&self, table: &mut [u16]) -> usize {
+    // Puts them, rising; the start has number 0.
+    fn put(&self, table: &mut [u16]) -> usize
+        ensures { Puts (listed self.now) 0 table.old result table.new }
+    {
         let mut next = put_if(self.start, 0, table, 0);
         let mut last = 0;
         while let Some(row) = self.stops.next_above(last) {
@@ -45,49 +50,84 @@ impl Points {
 }
 
 impl Sheet {
-    // The rows of the graph.
-    fn graph_rows(&self) -> RowSet {
-        let mut candidates = self.table.rows_in(RowState::Due);
-        candidates.join(&self.table.rows_in(RowState::Undone));
-        let mut graph = RowSet::new();
+    // Those of some rows that the current rollback struck.
+    fn struck_now(&self, rows: &RowSet) -> RowSet
+        ensures { (k : ℕ) → contains result k
+            ≡ (contains rows.now k && (sheet_of self.now).rolled k == (sheet_of self.now).rollback) }
+    {
+        let mut now = RowSet::new();
         let mut last = 0;
-        while let Some(row) = candidates.next_above(last) {
-            if self.table.rolled(row) == self.rollback {
-                graph.insert(row);
-            }
+        while let Some(row) = rows.next_above(last) {
+            now.put(row, self.table.rolled(row) == self.rollback);
             last = row;
         }
-        graph
+        now
     }
 
-    // Puts the arrows from a row of the graph.
-    fn put_arrows_from(&self, from: u16, ends: &RowSet, table: &mut [RowArrow], at: usize) -> usize {
+    // The rows of the graph: those that the current rollback made due.
+    fn graph(&self) -> RowSet
+        ensures { HasGraph (sheet_of self.now) result }
+    {
+        let mut rows = self.table.rows_in(RowState::Due);
+        rows.join(&self.table.rows_in(RowState::Undone));
+        self.struck_now(&rows)
+    }
+
+    // Puts the arrows from a row of the graph, by the set of the rows that they lead to.
+    fn put_arrows_to(&self, from: u16, to: &RowSet, table: &mut [RowArrow], at: usize) -> usize
+        requires to { (u : ℕ) → contains to.now u ≡ ends (sheet_of self.now) from u }
+        requires room { at + 257 < 2 ^ 64 }
+        ensures { Puts (arrows_from (sheet_of self.now) from) at table.old result table.new }
+    {
         let mut next = at;
         let mut last = 0;
-        while let Some(to) = ends.next_above(last) {
-            next = put_if(true, RowArrow { from, to }, table, next);
-            last = to;
+        while let Some(row) = to.next_above(last) {
+            next = put_if(true, RowArrow { from, to: row }, table, next);
+            last = row;
         }
         next
     }
 
-    fn put_arrows_at(&self, row: u16, graph: &RowSet, links: &RowSet, table: &mut [RowArrow], at: usize) -> usize {
-        let mut ends = *links;
-        ends.meet(graph);
-        self.put_arrows_from(row, &ends, table, at)
+    // Puts the arrows from a row of the graph, by the rows of the graph and those that are linked to this one.
+    fn put_arrows_from(
+        &self,
+        from: u16,
+        graph: &RowSet,
+        links: &RowSet,
+        table: &mut [RowArrow],
+        at: usize,
+    ) -> usize
+        requires graph { HasGraph (sheet_of self.now) graph.now }
+        requires links { HasLinks (sheet_of self.now).rows from links.now }
+        requires room { at + 257 < 2 ^ 64 }
+        ensures { Puts (arrows_from (sheet_of self.now) from) at table.old result table.new }
+    {
+        let mut to = *links;
+        to.meet(graph);
+        self.put_arrows_to(from, &to, table, at)
     }
 
-    fn put_arrows(&self, graph: &RowSet, links: &[RowSet; 257], table: &mut [RowArrow]) -> usize {
+    // Puts the arrows of the graph.
+    fn put_arrows(&self, graph: &RowSet, links: &[RowSet; 257], table: &mut [RowArrow]) -> usize
+        requires graph { HasGraph (sheet_of self.now) graph.now }
+        requires links { (v : ℕ) → contains graph.now v ≡ true
+            → HasLinks (sheet_of self.now).rows v (links_at links.now v) }
+        ensures { Puts (graph_arrows (sheet_of self.now)) 0 table.old result table.new }
+    {
         let mut next = 0;
         let mut last = 0;
         while let Some(row) = graph.next_above(last) {
-            next = self.put_arrows_at(row, graph, &links[usize::from(row)], table, next);
+            next = self.put_arrows_from(row, graph, &links[usize::from(row)], table, next);
             last = row;
         }
         next
     }
 
-    fn any_of_first_step(&self, rows: &RowSet) -> bool {
+    // Whether one of some rows is of the first step.
+    fn any_of_first_step(&self, rows: &RowSet) -> bool
+        ensures { result ≡ any_below ((sheet_of self.now).rows.count + 1)
+            (λ x. contains rows.now x && (sheet_of self.now).rows.step x == 1) }
+    {
         let mut last = 0;
         while let Some(row) = rows.next_above(last) {
             if self.table.step(row) == 1 {
@@ -98,33 +138,68 @@ impl Sheet {
         false
     }
 
-    fn stops(&self, behind: &RowSet) -> RowSet {
-        let mut reached = self.table.predecessors_of(behind);
-        reached.meet(&self.table.rows_in(RowState::Committed));
-        let mut stops = RowSet::new();
+    // Those of some rows that are savepoints.
+    fn savepoints(&self, rows: &RowSet) -> RowSet
+        ensures { (k : ℕ) → contains result k
+            ≡ (is_savepoint (chart_of self.now) (sheet_of self.now).rows k && contains rows.now k) }
+    {
+        let mut savepoints = RowSet::new();
         let mut last = 0;
-        while let Some(row) = reached.next_above(last) {
-            if self.table.is_savepoint(self.process.steps(), row) {
-                stops.insert(row);
-            }
+        while let Some(row) = rows.next_above(last) {
+            savepoints.put(row, self.table.is_savepoint(self.process.steps(), row));
             last = row;
         }
-        stops
+        savepoints
     }
 
-    fn points_of(&self, f: u16, scratch: &mut Scratch) -> Points {
-        let mut behind = self.table.backward_rows(self.process.steps(), f, scratch).unwrap();
+    // The savepoints that stopped the way back from the failing row, and are still committed.
+    fn stops(&self, f: u16, behind: &RowSet) -> RowSet
+        requires { HasBehind (chart_of self.now) (sheet_of self.now).rows f behind.now }
+        ensures { (w : ℕ) → contains result w ≡ stopped (chart_of self.now) (sheet_of self.now).rows f w }
+    {
+        let mut reached = self.table.predecessors_of(behind);
+        reached.meet(&self.table.rows_in(RowState::Committed));
+        self.savepoints(&reached)
+    }
+
+    // The failing row and its backward part.
+    fn behind(&self, f: u16, scratch: &mut Scratch) -> RowSet
+        requires room { enough (length (held scratch.old.marks.now)) (length scratch.old.line.now) ≡ true }
+        requires row { is_number f ≡ true }
+        ensures rows { HasBehind (chart_of self.now) (sheet_of self.now).rows f result }
+        ensures loans { SameLoans scratch.old scratch.new }
+    {
+        let steps = self.process.steps();
+        let mut behind = self.table.backward_rows(steps, f, scratch).unwrap();
         behind.insert(f);
+        behind
+    }
+
+    // The restart points of a partial abort: the start, if the way back came to it, and the savepoints that stopped it.
+    fn points_from(&self, f: u16, scratch: &mut Scratch) -> Points
+        requires { enough (length (held scratch.old.marks.now)) (length scratch.old.line.now) ≡ true }
+        ensures points { listed result ≡ restart_points (chart_of self.now) (sheet_of self.now).rows (Partial f) }
+        ensures loans { SameLoans scratch.old scratch.new }
+    {
+        let behind = self.behind(f, scratch);
         Points {
             start: self.any_of_first_step(&behind),
-            stops: self.stops(&behind),
+            stops: self.stops(f, &behind),
         }
     }
 
-    fn points(&self, scratch: &mut Scratch) -> Points {
+    // The restart points of the last abort.
+    fn points(&self, scratch: &mut Scratch) -> Points
+        requires { enough (length (held scratch.old.marks.now)) (length scratch.old.line.now) ≡ true }
+        ensures points { listed result ≡ points_of (chart_of self.now) (sheet_of self.now) }
+        ensures loans { SameLoans scratch.old scratch.new }
+    {
         match self.mode {
-            Mode::Complete => Points { start: true, stops: RowSet::new() },
-            Mode::Partial(f) => self.points_of(f, scratch),
+            Mode::Complete => Points {
+                start: true,
+                stops: RowSet::new(),
+            },
+            Mode::Partial(f) => self.points_from(f, scratch),
         }
     }
 
@@ -151,7 +226,7 @@ impl Sheet {
         ensures loans { SameLoans scratch.old scratch.new }
     {
         self.wants_graph()?;
-        let graph = self.graph_rows();
+        let graph = self.graph();
         let links = self.table.links(&graph);
         let points = self.points(scratch);
         // both are counted first: a declined listing leaves both tables as they were
