@@ -13,7 +13,7 @@ use Rattle.model.specs.Rows.{Rows}
 use Rattle.model.specs.Search.{all_below}
 use Rattle.model.specs.Sheet.{Sheet, in_graph}
 use Rattle.rowset.specs.declared.RowSet.{RowSet}
-use Rattle.rowset.specs.Members.{contains}
+use Rattle.rowset.specs.Members.{is_number, contains}
 use Rattle.sheet.specs.declared.sheets.listings.Points.{Points}
 
 -- a table with a list put into it from a place on, as far as the table goes
@@ -32,7 +32,7 @@ HasGraph s set = (k : ℕ) → contains set k ≡ in_graph s k
 
 -- the members are the failing row and its backward part
 abbrev pub HasBehind : Chart → Rows → ℕ → RowSet → Type 0
-HasBehind c r f set = (k : ℕ) → contains set k ≡ behind c r f k
+HasBehind c r f set = (k : ℕ) → contains set k ≡ (is_number k && behind c r f k)
 
 -- restart points as a list, rising
 abbrev pub listed : Points → List ℕ

@@ -8,7 +8,7 @@ ghost use Rattle.model.specs.Rows.{is_savepoint};
 ghost use Rattle.model.specs.Rollback.{stopped, restart_points};
 ghost use Rattle.model.specs.Sheet.{arrows_from, graph_arrows};
 ghost use Rattle.model.specs.Run.{column_after};
-ghost use Rattle.rowset.specs.Members.{is_number, contains};
+ghost use Rattle.rowset.specs.Members.{contains};
 ghost use Rattle.rows.specs.Linked.{HasLinks, links_at};
 ghost use Rattle.values.specs.Checks.{answer};
 ghost use Rattle.values.specs.declared.Mode.TheVariants.{Partial};
@@ -164,8 +164,7 @@ impl Sheet {
 
     // The failing row and its backward part.
     fn behind(&self, f: u16, scratch: &mut Scratch) -> RowSet
-        requires room { enough (length (held scratch.old.marks.now)) (length scratch.old.line.now) ≡ true }
-        requires row { is_number f ≡ true }
+        requires { enough (length (held scratch.old.marks.now)) (length scratch.old.line.now) ≡ true }
         ensures rows { HasBehind (chart_of self.now) (sheet_of self.now).rows f result }
         ensures loans { SameLoans scratch.old scratch.new }
     {
