@@ -12,7 +12,8 @@ use Rattle.rowset.proofs.Members.{none_in_none}
 use Rattle.rows.specs.declared.row.Row.{Row}
 use Rattle.rows.specs.declared.table.Sets.{Sets}
 use Rattle.rows.specs.Columns.{no_row, preds_of, Positive}
-use Rattle.rows.specs.Followers.{no_set, set_at, HaveFollowers, HasDue, Told, Tell}
+use Rattle.rows.specs.Followers.{HaveFollowers, Told, Tell}
+use Rattle.rows.specs.States.{no_set, set_at, HaveStates}
 use Rattle.rows.proofs.Arrows.{no_preds, joins_forth}
 use Rattle.rows.proofs.Leasts.{least_like}
 use Rattle.rows.proofs.Lists.{any_more}
@@ -29,13 +30,13 @@ unfolding Tell
 tell t = t
 
 -- rows whose predecessors stay
-pub told_kept : (sets : Sets) (due : RowSet) (rows new : List Row) → preds_of rows ≡ preds_of new → length new ≡ length rows
-    → HasDue due new → Tell sets rows → Tell (record { followers = sets.followers; due = due }) new
-told_kept sets due rows new preds long has t = tell (record {
+pub told_kept : (sets : Sets) (states : List RowSet) (rows new : List Row) → preds_of rows ≡ preds_of new → length new ≡ length rows
+    → HaveStates states new → Tell sets rows → Tell (record { followers = sets.followers; states = states }) new
+told_kept sets states rows new preds long have t = tell (record {
   followers = subst (HaveFollowers sets.followers.items) preds (told t).followers;
   level = (told t).level ∙ sym long;
   places = (told t).places;
-  due = has;
+  states = have;
 })
 
 -- ── read ──
@@ -137,7 +138,7 @@ module _ (rows : List Row) (lower : Lower (preds_of rows)) (positive : Positive 
 -- ── no rows ──
 
 -- no number is inside an empty list
-nowhere : {X : Type 0} (xs : List X) (k : ℕ) → xs ≡ [] → (k ≡ 0) ⊎ (length xs < k)
+pub nowhere : {X : Type 0} (xs : List X) (k : ℕ) → xs ≡ [] → (k ≡ 0) ⊎ (length xs < k)
 nowhere xs k e = elim (cases_eq k 0) [ inl z ↦ inl z | inr nz ↦ inr (omega (arith, ap length e)) ]
 
 pub no_followers : (sets : List RowSet) (rows : List Row) → sets ≡ [] → rows ≡ [] → HaveFollowers sets (preds_of rows)

@@ -1,9 +1,6 @@
-pub mod Aborts
 pub mod Arrows
 pub mod Below
 pub mod Columns
-pub mod Dues
-pub mod Falls
 pub mod Followers
 pub mod Later
 pub mod Leasts
@@ -11,6 +8,7 @@ pub mod Links
 pub mod LinkSets
 pub mod Lists
 pub mod Numbered
-pub mod Passing
 pub mod Ranges
+pub mod Searches
+pub mod States
 pub mod Walks

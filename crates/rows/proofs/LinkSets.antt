@@ -7,7 +7,7 @@ use Rattle.model.specs.Rows.{Rows}
 use Rattle.model.specs.Search.{has}
 use Rattle.rowset.specs.declared.RowSet.{RowSet}
 use Rattle.rowset.specs.Members.{contains}
-use Rattle.rows.specs.Followers.{no_set}
+use Rattle.rows.specs.States.{no_set}
 use Rattle.rows.specs.Linked.{links_at, HasLinks}
 use Rattle.rows.proofs.Lists.{any_found}
 

@@ -1,5 +1,5 @@
 // The sets of the rows in each state.
-ghost use Rattle.std.specs.Prelude.{◌≡◌, ℕ, not, ◌&&◌, if◌then◌else◌, length, ◌==◌};
+ghost use Rattle.std.specs.Prelude.{◌≡◌, ℕ, not, ◌&&◌, if◌then◌else◌, ◌==◌};
 ghost use Rattle.values.specs.Numbers.{row_state_number, same_state};
 ghost use Rattle.values.specs.declared.RowState.{RowState as State};
 ghost use Rattle.values.specs.declared.RowState.TheVariants.{Absent};
@@ -20,12 +20,10 @@ fn set_number(state: RowState) -> u16
 }
 
 /// Makes a row a member of a state's set or not.
-pub(crate) fn put_in(states: &mut [RowSet], state: RowState, row: u16, is_member: bool)
-    requires { length states.old ≡ 6 }
-    ensures sets { (st : State) (k : ℕ) → contains (set_at states.new (row_state_number st)) k
+pub(crate) fn put_in(states: &mut [RowSet; 6], state: RowState, row: u16, is_member: bool)
+    ensures { (st : State) (k : ℕ) → contains (set_at states.new (row_state_number st)) k
         ≡ (if same_state st state && k == row then not (same_state st Absent) && (is_member && is_number k)
         else contains (set_at states.old (row_state_number st)) k) }
-    ensures len { length states.new ≡ length states.old }
 {
     if let Some(place) = usize::from(set_number(state)).checked_sub(1) {
         states[place].put(row, is_member);

@@ -5,7 +5,7 @@ ghost use Rattle.model.specs.Rows.{no_rows, in_state, marked, added};
 ghost use Rattle.model.specs.Search.{has};
 ghost use Rattle.rowset.specs.Members.{is_number, contains};
 ghost use Rattle.rows.specs.Columns.{fits};
-ghost use Rattle.rows.specs.Followers.{set_at};
+ghost use Rattle.rows.specs.States.{set_at};
 ghost use Rattle.rows.specs.Tables.{rows_of, rolled_of};
 
 use super::by_state::put_in;

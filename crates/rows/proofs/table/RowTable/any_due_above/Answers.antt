@@ -1,5 +1,5 @@
 use Rattle.std.proofs.Common.{vec_items, ◌∙◌}
-use Rattle.rows.proofs.Dues.{due_above_is}
+use Rattle.rows.proofs.Searches.{due_above_is}
 use Rattle.rows.proofs.table.RowTable.any_due_above.Goals as goal
 
 pub returns : goal.returns

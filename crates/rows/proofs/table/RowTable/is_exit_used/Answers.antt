@@ -1,35 +1,35 @@
--- Only followers use an exit.
-use Rattle.std.proofs.Common.{◌≡◌, ℕ, ◌+◌, true, false, ◌&&◌, vec_items, sym, inl, inr, arith}
-use Rattle.std.proofs.lemmas.Bool.{and_from, and_left, and_parts, and_right, cases_Bool, cases_lt}
-use Rattle.model.specs.Search.{has}
-use Rattle.model.specs.Rows.{live}
+-- Only live followers use an exit.
+use Rattle.std.proofs.Common.{◌≡◌, ℕ, ◌+◌, false, vec_items, sym, ◌∙◌, arith}
+use Rattle.std.proofs.lemmas.Bool.{and_from, and_left, and_parts, and_right}
+use Rattle.rowset.specs.Members.{contains}
 use Rattle.model.proofs.Basics.{any_below_in}
 use Rattle.rows.specs.Columns.{follows}
 use Rattle.rows.specs.Tables.{rows_of}
-use Rattle.rows.proofs.Arrows.{joins_forth}
 use Rattle.rows.proofs.Below.{any_below_none}
+use Rattle.rows.proofs.Searches.{live_within, none_more, none_left}
 use Rattle.rows.proofs.table.RowTable.is_exit_used.Goals as goal
 
 pub returns-then-uses_exit : goal.returns-then-uses_exit
 returns-then-uses_exit c =
-    let t = c.args.self.now in
-    let r = rows_of t in
+    let r = rows_of c.args.self.now in
     let v = c.in-Some.follower in
-    let follower : has c.args.number (r.preds v) ≡ true = c.in-Some.ensures.1 in
-    let inside = (joins_forth (vec_items t.rows) t.lower t.positive c.args.number v follower).1.1 in
-    let (alive, free) = and_parts (live (r.state v)) _ (sym c.if-uses_exit.ensures) in
+    let member = sym (c.live_followers-followers.ensures v) ∙ c.in-Some.ensures.1 in
+    let row = live_within (vec_items c.args.self.now.rows) v (and_parts _ _ member).0 in
     sym (any_below_in (r.count + 1) (follows r c.args.exit c.args.step c.args.number) v (omega arith)
-    (and_from (live (r.state v) && has c.args.number (r.preds v)) _ (and_from (live (r.state v)) _ alive follower) free))
+    (and_from _ _ member (sym c.if-uses_exit.ensures)))
+
+pub loop-follower-preserved : goal.loop-follower-preserved
+loop-follower-preserved c =
+    let q = follows (rows_of c.args.self.now) c.args.exit c.args.step c.args.number in
+    none_more (contains c.live_followers-followers.result) q
+    (λ k f. and_left _ _ (sym (c.live_followers-followers.ensures k) ∙ f))
+    c.loop-follower.after c.loop-follower.invariant c.in-Some.follower c.in-Some.ensures (and_right _ _ (sym c.if-uses_exit.ensures))
 
 pub returns : goal.returns
 returns c =
     let r = rows_of c.args.self.now in
-    let k = c.args.number in
-    let none : (v : ℕ) → follows r c.args.exit c.args.step k v ≡ false = λ v. elim (cases_lt c.loop-follower.after v) [
-      | inl high ↦ elim (cases_Bool (has k (r.preds v))) [
-        | inl t ↦ absurd (c.in_default.ensures v high t)
-        | inr f ↦ and_left (live (r.state v) && has k (r.preds v)) _ (and_right (live (r.state v)) _ f)
-      ]
-      | inr low ↦ c.loop-follower.invariant v low
-    ] in
-    sym (any_below_none (r.count + 1) (follows r c.args.exit c.args.step k) (λ v l. none v))
+    let q = follows r c.args.exit c.args.step c.args.number in
+    let none = none_left (contains c.live_followers-followers.result) q
+    (λ k f. and_left _ _ (sym (c.live_followers-followers.ensures k) ∙ f)) c.loop-follower.after c.loop-follower.invariant
+    c.in_default.ensures in
+    sym (any_below_none (r.count + 1) q (λ v l. none v))

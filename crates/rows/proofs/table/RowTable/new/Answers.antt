@@ -1,5 +1,5 @@
 use Rattle.std.proofs.Common.{length, sym, ap, ◌∙◌}
-use Rattle.rows.proofs.Dues.{none_due}
+use Rattle.rows.proofs.States.{none_in_any}
 use Rattle.rows.proofs.Followers.{no_followers, tell}
 use Rattle.rows.proofs.table.RowTable.new.Goals as goal
 
@@ -11,5 +11,5 @@ invariant_of-result-clause-told c =
       followers = no_followers _ _ sets rows;
       level = c.in_ok-followers.ensures.len ∙ sym (ap length rows);
       places = c.in_ok-followers.ensures.capacity;
-      due = none_due _ _ rows c.new-due.ensures;
+      states = none_in_any _ _ rows c.new-states.ensures;
     })

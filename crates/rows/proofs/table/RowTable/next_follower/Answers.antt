@@ -1,23 +1,13 @@
-use Rattle.std.proofs.Common.{List, Some, None, vec_items, sym, ap, ◌∙◌}
-use Rattle.rowset.specs.declared.RowSet.{RowSet}
-use Rattle.rows.specs.Columns.{preds_of}
-use Rattle.rows.specs.Followers.{no_set, set_at}
-use Rattle.rows.proofs.Followers.{next_in, no_follower, told}
-use Rattle.rows.proofs.Numbered.{found}
+use Rattle.std.proofs.Common.{◌≡◌, true, sym, ◌∙◌}
+use Rattle.rowset.specs.Members.{contains}
+use Rattle.model.specs.Search.{has}
+use Rattle.rows.specs.Tables.{rows_of}
+use Rattle.rows.proofs.Leasts.{least_like}
 use Rattle.rows.proofs.table.RowTable.next_follower.Goals as goal
 
-pub returns-in-Some : goal.returns-in-Some
-returns-in-Some c =
-    let t = c.args.self.now in
-    let k = c.args.earlier in
-    let is = found no_set c.deref.result.now k (Some c.in-Some.followers) c.in-Some.ensures in
-    next_in t.sets.followers.items (preds_of (vec_items t.rows)) (told t.told).followers k c.args.after c.in-Some.followers.now c.next_above.result
-    (is ∙ ap (λ (sets : List RowSet). set_at sets k) c.deref.ensures.value) c.next_above.ensures
-
-pub returns-in-None : goal.returns-in-None
-returns-in-None c =
-    let t = c.args.self.now in
-    let k = c.args.earlier in
-    let is = found no_set c.deref.result.now k None c.in-None.ensures in
-    no_follower t.sets.followers.items (preds_of (vec_items t.rows)) (told t.told).followers k c.args.after
-    (ap (λ (sets : List RowSet). set_at sets k) (sym c.deref.ensures.value) ∙ is)
+pub returns : goal.returns
+returns c =
+    let r = rows_of c.args.self.now in
+    let is = c.followers.ensures in
+    least_like (λ k. contains c.followers.result k ≡ true) (λ k. has c.args.earlier (r.preds k) ≡ true) c.args.after c.next_above.result
+    (λ k m. sym (is k) ∙ m) (λ k m. is k ∙ m) c.next_above.ensures

@@ -1,19 +1,22 @@
 -- One row added: it follows only rows that are there.
-use Rattle.std.proofs.Common.{◌≡◌, ℕ, ◌+◌, ◌<◌, ◌≤◌, true, false, not, ◌&&◌, ◌||◌, eqb, ltb, leb, List, [], ◌∷◌, ◌++◌, length, sym, ap, ap₂, ◌∙◌, subst, inl, inr, arith}
+use Rattle.std.proofs.Common.{◌≡◌, ℕ, ◌+◌, ◌<◌, ◌≤◌, true, false, cond, not, ◌&&◌, ◌||◌, eqb, ltb, leb, List, [], ◌∷◌, ◌++◌, length, sym, ap, ap₂, ◌∙◌, subst, inl, inr, arith}
 use Rattle.std.proofs.lemmas.List.{length_push, take_all, with_items_is}
 use Rattle.std.proofs.lemmas.Bool.{and_parts, leb-true, ltb-true, both_ways, not-true, cases_Bool, not_from_false}
 use Rattle.values.specs.declared.RowState.{RowState}
 use Rattle.model.specs.Search.{any, at_put, has}
 use Rattle.model.proofs.Basics.{any_in}
 use Rattle.rowset.specs.declared.RowSet.{RowSet}
-use Rattle.rowset.specs.Members.{contains}
+use Rattle.rowset.specs.Members.{is_number, contains}
 use Rattle.rows.specs.declared.row.Row.{Row}
 use Rattle.model.specs.Sheets.{Lower}
 use Rattle.rows.specs.Columns.{fits, columns, preds_of, row_at, Positive}
-use Rattle.rows.specs.Followers.{set_at, HaveFollowers}
-use Rattle.rows.proofs.Columns.{columns_added, rolled_added, preds_grown, states_grown, lower_added, positive_added}
-use Rattle.rows.proofs.Dues.{due_added}
+use Rattle.rows.specs.Followers.{HaveFollowers}
+use Rattle.rows.specs.States.{set_at}
+use Rattle.rows.proofs.Columns.{row_past, columns_added, rolled_added, preds_grown, states_grown, lower_added, positive_added}
+use Rattle.values.specs.Numbers.{same_state}
+use Rattle.values.specs.declared.RowState.TheVariants.{Absent, Running}
 use Rattle.rows.proofs.Followers.{followers_added, told, tell}
+use Rattle.rows.proofs.States.{none_there, of_state, put_back}
 use Rattle.rows.proofs.table.RowTable.push.Goals as goal
 
 -- what fits: a place, at most eight predecessors, none above the length
@@ -89,9 +92,14 @@ invariant_of-self c =
             (subst (λ (xs : List RowSet). HaveFollowers xs (at_put (preds_of rows) (length rows + 1) fs)) (sym stored) linked_all);
         level = omega (arith, q.len, (told s.told).level, longer);
         places = omega (arith, q.capacity, (told s.told).places);
-        due = due_added rows _ s.sets.due
+        states = put_back rows _ (length rows + 1) Running s.sets.states _ (omega arith) (omega (arith, f.place))
             (ap {B = ℕ → RowState} (λ (xs : List Row) j. (row_at xs j).state) p.items
-            ∙ states_grown rows c.args.step c.first_eight.result fs c.args.entry e) (told s.told).due;
+            ∙ states_grown rows c.args.step c.first_eight.result fs c.args.entry e)
+            (λ st j. c.put_in.ensures st j
+            ∙ ap (λ n. cond (same_state st Running && eqb j (n + 1)) (not (same_state st Absent) && is_number j)
+            (contains (of_state s.sets.states st) j)) c.len-row.ensures)
+            (none_there rows (length rows + 1) s.sets.states
+            (sym (ap (λ r. same_state r.state Absent) (row_past rows (length rows + 1) (inr (omega arith))))) (told s.told).states);
       });
     }
 

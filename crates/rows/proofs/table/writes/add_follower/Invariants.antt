@@ -1,7 +1,7 @@
 use Rattle.std.proofs.Common.{◌≡◌, ℕ, ◌&&◌, ◌||◌, eqb, take}
 use Rattle.model.specs.Search.{has}
 use Rattle.rowset.specs.Members.{contains}
-use Rattle.rows.specs.Followers.{set_at}
+use Rattle.rows.specs.States.{set_at}
 use Rattle.rows.proofs.table.writes.add_follower.Given as goal
 
 -- the row follows the predecessors so far
