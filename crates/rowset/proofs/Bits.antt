@@ -1,11 +1,11 @@
 -- Bits in words of 64, and a set's members by them. Assumes nothing.
-use Rattle.std.proofs.Common.{◌≡◌, ℕ, ◌+◌, ◌-◌, ◌*◌, ◌/◌, ◌%◌, ◌^◌, ◌<◌, ◌≤◌, max, true, false, cond, ◌||◌, eqb, ◌⊎◌, List, length, get_or, set, bit_or, sym, refl, ap, ◌∙◌, inl, inr, arith, w64}
+use Rattle.std.proofs.Common.{◌≡◌, ℕ, ◌+◌, ◌-◌, ◌*◌, ◌/◌, ◌%◌, ◌^◌, ◌<◌, ◌≤◌, max, min, true, false, cond, ◌&&◌, ◌||◌, eqb, ◌⊎◌, List, length, get_or, set, bit_and, bit_or, sym, refl, ap, ◌∙◌, inl, inr, arith, w64}
 use Rattle.std.specs.Int.{bit_at, trailing_zeros}
 use Rattle.std.proofs.lemmas.Bool.{cases_eq, cases_lt, eq-eqb, ne_eqb}
 use Rattle.std.proofs.lemmas.Bool.Decides.{nat_tests}
 use Rattle.std.proofs.lemmas.List.{get_or_past, get_or-set_same, get_or-set_other}
 use Rattle.std.proofs.lemmas.Nat.{shr-shr, shr_le}
-use Rattle.std.proofs.lemmas.Nat.Bits.{bit_at-zero, bit_at_or, bit_at-lt, bit_at_above, bit_at-trailing_zeros}
+use Rattle.std.proofs.lemmas.Nat.Bits.{bit_at-zero, bit_at_and, bit_at_or, bit_at-lt, bit_at_above, bit_at-trailing_zeros}
 use Rattle.rowset.specs.Members.{is_set}
 
 -- ── where a bit stands ──
@@ -23,19 +23,20 @@ none_past words p h =
     ap (λ x. eqb (bit_at x (p % 64)) 1) (get_or_past words (p / 64) 0 (omega arith))
     ∙ ap (λ x. eqb x 1) (bit_at-zero (p % 64))
 
--- a bit of either of two words
+-- a bit of two words as one
 greater : (x y : ℕ) → x < 2 → y < 2 → eqb (max x y) 1 ≡ (eqb x 1 || eqb y 1)
 greater x y h l = grind (arith, nat_tests)
 
-pub either_bit : (xs ys zs : List ℕ) (p : ℕ) → get_or zs (p / 64) 0 ≡ bit_or (get_or xs (p / 64) 0) (get_or ys (p / 64) 0)
-    → is_set zs p ≡ (is_set xs p || is_set ys p)
-unfolding is_set
-either_bit xs ys zs p e =
-    let a = get_or xs (p / 64) 0 in
-    let b = get_or ys (p / 64) 0 in
-    let j = p % 64 in
-    ap (λ x. eqb (bit_at x j) 1) e ∙ ap (λ x. eqb x 1) (bit_at_or a b j)
-    ∙ greater (bit_at a j) (bit_at b j) (bit_at-lt a j) (bit_at-lt b j)
+lesser : (x y : ℕ) → x < 2 → y < 2 → eqb (min x y) 1 ≡ (eqb x 1 && eqb y 1)
+lesser x y h l = grind (arith, nat_tests)
+
+pub either_bit : (a b j : ℕ) → eqb (bit_at (bit_or a b) j) 1 ≡ (eqb (bit_at a j) 1 || eqb (bit_at b j) 1)
+either_bit a b j =
+    ap (λ x. eqb x 1) (bit_at_or a b j) ∙ greater (bit_at a j) (bit_at b j) (bit_at-lt a j) (bit_at-lt b j)
+
+pub common_bit : (a b j : ℕ) → eqb (bit_at (bit_and a b) j) 1 ≡ (eqb (bit_at a j) 1 && eqb (bit_at b j) 1)
+common_bit a b j =
+    ap (λ x. eqb x 1) (bit_at_and a b j) ∙ lesser (bit_at a j) (bit_at b j) (bit_at-lt a j) (bit_at-lt b j)
 
 -- ── a word written ──
 

@@ -1,11 +1,11 @@
 -- A set's members, when a bit is written. Assumes nothing.
-use Rattle.std.proofs.Common.{◌≡◌, ℕ, ◌+◌, ◌-◌, ◌*◌, ◌/◌, ◌^◌, ◌<◌, ◌≤◌, true, false, cond, not, ◌&&◌, ◌||◌, eqb, leb, List, [], length, Some, None, get_or, w64, bit_or, sym, ap, ap₂, ◌∙◌, inl, inr, arith}
-use Rattle.std.specs.Int.{trailing_zeros}
+use Rattle.std.proofs.Common.{◌≡◌, ℕ, ◌+◌, ◌-◌, ◌*◌, ◌/◌, ◌%◌, ◌^◌, ◌<◌, ◌≤◌, Bool, true, false, cond, not, ◌&&◌, ◌||◌, eqb, leb, List, [], length, Some, None, get_or, w64, sym, ap, ap₂, ◌∙◌, inl, inr, arith}
+use Rattle.std.specs.Int.{bit_at, trailing_zeros}
 use Rattle.std.proofs.lemmas.Bool.Decides.{nat_tests}
 use Rattle.std.proofs.lemmas.Bool.{cases_eq, cases_lt, both_ways, and_from, and_parts, and_right, le-leb, ne_eqb}
 use Rattle.graph.specs.Reach.{Least}
 use Rattle.rowset.specs.Members.{is_set, is_number}
-use Rattle.rowset.proofs.Bits.{none_past, either_bit, zeros, first_in_word, none_before}
+use Rattle.rowset.proofs.Bits.{none_past, zeros, first_in_word, none_before}
 
 module _ (old new : List ℕ) (q number : ℕ) (place : q + 1 ≡ number) (inside : q < 256) where
   pub inserted : ((p : ℕ) → is_set new p ≡ cond (eqb p q) true (is_set old p)) → (k : ℕ)
@@ -41,20 +41,29 @@ kept_without words long number none k = elim (cases_eq k number) [
   | inr ne ↦ let other = ne_eqb k number ne in grind arith
 ]
 
--- two sets as one
-module _ (xs ys zs : List ℕ) (few : length xs ≡ 4) (few' : length ys ≡ 4) (long : length zs ≡ 4)
-    (each : (i : ℕ) → i < 4 → get_or zs i 0 ≡ bit_or (get_or xs i 0) (get_or ys i 0)) where
-  bit_joined : (p : ℕ) → is_set zs p ≡ (is_set xs p || is_set ys p)
-  bit_joined p = elim (cases_lt p 256) [
-    | inl low ↦ either_bit xs ys zs p (each (p / 64) (omega arith))
+-- two sets as one, by their bits
+module _ (op : ℕ → ℕ → ℕ) (test : Bool → Bool → Bool) (none : test false false ≡ false)
+    (bits : (a b j : ℕ) → eqb (bit_at (op a b) j) 1 ≡ test (eqb (bit_at a j) 1) (eqb (bit_at b j) 1))
+    (xs ys zs : List ℕ) (few : length xs ≡ 4) (few' : length ys ≡ 4) (long : length zs ≡ 4)
+    (each : (i : ℕ) → i < 4 → get_or zs i 0 ≡ op (get_or xs i 0) (get_or ys i 0)) where
+  bit_combined : (p : ℕ) → is_set zs p ≡ test (is_set xs p) (is_set ys p)
+  unfolding is_set
+  bit_combined p = elim (cases_lt p 256) [
+    | inl low ↦
+        ap (λ x. eqb (bit_at x (p % 64)) 1) (each (p / 64) (omega arith))
+        ∙ bits (get_or xs (p / 64) 0) (get_or ys (p / 64) 0) (p % 64)
     | inr high ↦
-        none_past zs p (omega arith)
-        ∙ sym (ap₂ ◌||◌ (none_past xs p (omega arith)) (none_past ys p (omega arith)))
+        none_past zs p (omega arith) ∙ sym none
+        ∙ sym (ap₂ test (none_past xs p (omega arith)) (none_past ys p (omega arith)))
   ]
 
-  pub joined : (k : ℕ) → (not (eqb k 0) && is_set zs (k - 1))
-      ≡ ((not (eqb k 0) && is_set xs (k - 1)) || (not (eqb k 0) && is_set ys (k - 1)))
-  joined k = let both = bit_joined (k - 1) in grind (arith, nat_tests)
+  pub combined : (k : ℕ) → (not (eqb k 0) && is_set zs (k - 1))
+      ≡ test (not (eqb k 0) && is_set xs (k - 1)) (not (eqb k 0) && is_set ys (k - 1))
+  combined k = go (eqb k 0)
+    where
+      go : (b : Bool) → (not b && is_set zs (k - 1)) ≡ test (not b && is_set xs (k - 1)) (not b && is_set ys (k - 1))
+      go true = sym none
+      go false = bit_combined (k - 1)
 
 -- ── searches ──
 

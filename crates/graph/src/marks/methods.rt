@@ -1,5 +1,5 @@
 //! What can be done with marks.
-ghost use Rattle.std.specs.Prelude.{◌≡◌, length};
+ghost use Rattle.std.specs.Prelude.{◌≡◌, true, length};
 ghost use Rattle.graph.specs.Column.{covered, marked, with_mark, Kept, Wiped};
 ghost use Rattle.graph.specs.Held.{held};
 ghost use Rattle.graph.specs.Reach.{Least};
