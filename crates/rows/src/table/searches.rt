@@ -88,7 +88,7 @@ impl RowTable {
             ≡ (live ((rows_of self.now).state k) && has earlier ((rows_of self.now).preds k)) }
     {
         let mut live = self.live();
-        live.join(&self.followers(earlier));
+        live.meet(&self.followers(earlier));
         live
     }
 

@@ -1,6 +1,7 @@
 -- Only live followers use an exit.
-use Rattle.std.proofs.Common.{◌≡◌, ℕ, ◌+◌, false, vec_items, sym, ◌∙◌, arith}
+use Rattle.std.proofs.Common.{◌≡◌, ℕ, ◌+◌, true, false, eqb, vec_items, sym, ap, ◌∙◌, arith}
 use Rattle.std.proofs.lemmas.Bool.{and_from, and_left, and_parts, and_right}
+use Rattle.model.specs.Chart.{by_flow}
 use Rattle.rowset.specs.Members.{contains}
 use Rattle.model.proofs.Basics.{any_below_in}
 use Rattle.rows.specs.Columns.{follows}
@@ -15,15 +16,16 @@ returns-then-uses_exit c =
     let v = c.in-Some.follower in
     let member = sym (c.live_followers-followers.ensures v) ∙ c.in-Some.ensures.1 in
     let row = live_within (vec_items c.args.self.now.rows) v (and_parts _ _ member).0 in
-    sym (any_below_in (r.count + 1) (follows r c.args.exit c.args.step c.args.number) v (omega arith)
-    (and_from _ _ member (sym c.if-uses_exit.ensures)))
+    let uses = ap (λ s. by_flow c.args.exit true (eqb s c.args.step)) (sym c.step.ensures) ∙ sym c.if-uses_exit.ensures in
+    sym (any_below_in (r.count + 1) (follows r c.args.exit c.args.step c.args.number) v (omega arith) (and_from _ _ member uses))
 
 pub loop-follower-preserved : goal.loop-follower-preserved
 loop-follower-preserved c =
     let q = follows (rows_of c.args.self.now) c.args.exit c.args.step c.args.number in
+    let not_used = ap (λ s. by_flow c.args.exit true (eqb s c.args.step)) (sym c.step.ensures) ∙ sym c.if-uses_exit.ensures in
     none_more (contains c.live_followers-followers.result) q
     (λ k f. and_left _ _ (sym (c.live_followers-followers.ensures k) ∙ f))
-    c.loop-follower.after c.loop-follower.invariant c.in-Some.follower c.in-Some.ensures (and_right _ _ (sym c.if-uses_exit.ensures))
+    c.loop-follower.after c.loop-follower.invariant c.in-Some.follower c.in-Some.ensures (and_right _ _ not_used)
 
 pub returns : goal.returns
 returns c =
