@@ -74,32 +74,67 @@ column_kept f g k x e = fun_ext (λ j. go (eqb j k) j refl)
 abbrev pub turned : Row → RowState → Row
 turned y to = record { step = y.step; predecessors = y.predecessors; entry = y.entry; state = to; rolled = y.rolled }
 
+abbrev pub rolled_by : Row → ℕ → Row
+rolled_by y n = record { step = y.step; predecessors = y.predecessors; entry = y.entry; state = y.state; rolled = n }
+
+-- one row written for another
+module _ (rows : List Row) (k : ℕ) (y x : Row) (low : 0 < k) (high : k ≤ length rows) (is : y ≡ row_at rows k) where
+  pub kept : {B : Type 0} (f : Row → B) → f x ≡ f y → ◌≡◌ {A = ℕ → B} (λ j. f (row_at (set rows (k - 1) x) j)) (λ j. f (row_at rows j))
+  kept f e = ap (λ g j. f (g j)) (row_set rows k x low high) ∙ column_kept f (row_at rows) k x (e ∙ ap f is)
+
+  pub written : {B : Type 0} (f : Row → B)
+      → ◌≡◌ {A = ℕ → B} (λ j. f (row_at (set rows (k - 1) x) j)) (at_put (λ j. f (row_at rows j)) k (f x))
+  written f = ap (λ g j. f (g j)) (row_set rows k x low high) ∙ column_put f (row_at rows) k x
+
+-- one row's rollback written
+module _ (rows : List Row) (k : ℕ) (y : Row) (n : ℕ) (low : 0 < k) (high : k ≤ length rows) (is : y ≡ row_at rows k) where
+  abbrev rolled_rows : List Row
+  rolled_rows = set rows (k - 1) (rolled_by y n)
+
+  stays : {B : Type 0} (f : Row → B) → f (rolled_by y n) ≡ f y → ◌≡◌ {A = ℕ → B} (λ j. f (row_at rolled_rows j)) (λ j. f (row_at rows j))
+  stays f e = kept rows k y (rolled_by y n) low high is f e
+
+  pub preds_rolled : preds_of rolled_rows ≡ preds_of rows
+  preds_rolled = stays (λ r. r.predecessors.items) refl
+
+  pub states_rolled : ◌≡◌ {A = ℕ → RowState} (λ j. (row_at rolled_rows j).state) (λ j. (row_at rows j).state)
+  states_rolled = stays (λ r. r.state) refl
+
+  pub columns_rolled : columns rolled_rows ≡ columns rows
+  columns_rolled = λ i. record {
+    count = length-set rows (k - 1) (rolled_by y n) i;
+    step = stays (λ r. r.step) refl i;
+    preds = preds_rolled i;
+    entry = stays (λ r. r.entry) refl i;
+    state = states_rolled i;
+  }
+
+  pub rolled_written : ◌≡◌ {A = ℕ → ℕ} (λ j. (row_at rolled_rows j).rolled) (at_put (λ j. (row_at rows j).rolled) k n)
+  rolled_written = written rows k y (rolled_by y n) low high is (λ r. r.rolled)
+
 -- one row's state written
 module _ (rows : List Row) (k : ℕ) (y : Row) (to : RowState) (low : 0 < k) (high : k ≤ length rows) (is : y ≡ row_at rows k) where
-  same_row : row_at (set rows (k - 1) (turned y to)) ≡ at_put (row_at rows) k (turned y to)
-  same_row = row_set rows k (turned y to) low high
-
-  kept : {B : Type 0} (f : Row → B) → f (turned y to) ≡ f y → ◌≡◌ {A = ℕ → B} (λ j. f (row_at (set rows (k - 1) (turned y to)) j)) (λ j. f (row_at rows j))
-  kept f e = ap (λ g j. f (g j)) same_row ∙ column_kept f (row_at rows) k (turned y to) (e ∙ ap f is)
+  stays_marked : {B : Type 0} (f : Row → B) → f (turned y to) ≡ f y → ◌≡◌ {A = ℕ → B} (λ j. f (row_at (set rows (k - 1) (turned y to)) j)) (λ j. f (row_at rows j))
+  stays_marked f e = kept rows k y (turned y to) low high is f e
 
   -- the predecessors stay
   pub preds_marked : preds_of (set rows (k - 1) (turned y to)) ≡ preds_of rows
-  preds_marked = kept (λ r. r.predecessors.items) refl
+  preds_marked = stays_marked (λ r. r.predecessors.items) refl
 
   pub states_marked : ◌≡◌ {A = ℕ → RowState} (λ j. (row_at (set rows (k - 1) (turned y to)) j).state) (at_put (λ j. (row_at rows j).state) k to)
-  states_marked = ap (λ g j. (g j).state) same_row ∙ column_put (λ r. r.state) (row_at rows) k (turned y to)
+  states_marked = written rows k y (turned y to) low high is (λ r. r.state)
 
   pub columns_marked : columns (set rows (k - 1) (turned y to)) ≡ marked (columns rows) k to
   columns_marked = λ i. record {
     count = length-set rows (k - 1) (turned y to) i;
-    step = kept (λ r. r.step) refl i;
+    step = stays_marked (λ r. r.step) refl i;
     preds = preds_marked i;
-    entry = kept (λ r. r.entry) refl i;
+    entry = stays_marked (λ r. r.entry) refl i;
     state = states_marked i;
   }
 
   pub rolled_marked : ◌≡◌ {A = ℕ → ℕ} (λ j. (row_at (set rows (k - 1) (turned y to)) j).rolled) (λ j. (row_at rows j).rolled)
-  rolled_marked = kept (λ r. r.rolled) refl
+  rolled_marked = stays_marked (λ r. r.rolled) refl
 
 abbrev pub opened : ℕ → ArrayVec ℕ → Entry → Row
 opened step ps e = record { step = step; predecessors = ps; entry = e; state = Running; rolled = 0 }

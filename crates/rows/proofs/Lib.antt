@@ -1,6 +1,7 @@
 pub mod Arrows
 pub mod Below
 pub mod Columns
+pub mod Falls
 pub mod Followers
 pub mod Later
 pub mod Leasts

@@ -81,3 +81,9 @@ none_in_any set rows e none st k =
     empty Due = none k
     empty Undone = none k
     empty PassedOver = none k
+
+-- rows whose states stay
+pub kept_states : (rows new : List Row) (sets : List RowSet)
+    → ◌≡◌ {A = ℕ → RowState} (λ j. (row_at new j).state) (λ j. (row_at rows j).state) → HaveStates sets rows → HaveStates sets new
+kept_states rows new sets same had st j =
+    had st j ∙ sym (ap (λ f. not (same_state st Absent) && same_state (f j) st) same)

@@ -33,13 +33,20 @@ impl RowTable {
         !step.counterpart || !step.private && self.entry(row).number.is_none()
     }
 
+    // Whether a row is live: running or committed.
+    fn is_live(&self, row: u16) -> bool
+        ensures { result ≡ live ((rows_of self.now).state row) }
+    {
+        matches!(self.state(row), RowState::Running | RowState::Committed)
+    }
+
     // Gives a live row the number of a rollback.
     fn set_rolled(&mut self, row: u16, number: u16)
         ensures rows { rows_of self.new ≡ rows_of self.old }
         ensures rolled { rolled_of self.new
             ≡ (λ k. cond (k == row && live ((rows_of self.old).state k)) number (rolled_of self.old k)) }
     {
-        if matches!(self.state(row), RowState::Running | RowState::Committed) {
+        if self.is_live(row) {
             // the row is there: a `get_mut` would look again
             self.rows[row as usize - 1].rolled = number;
         }
