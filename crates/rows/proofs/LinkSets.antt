@@ -1,8 +1,9 @@
 -- The sets of the rows that are linked to each row. Assumes nothing.
-use Rattle.std.proofs.Common.{◌≡◌, ℕ, ◌+◌, ◌<◌, true, eqb, List, length, get_or, set, refl, ap, ◌∙◌, arith}
-use borrow.Author.Count.{below_more}
-use Rattle.std.proofs.lemmas.Bool.{eq-eqb}
+use Rattle.std.proofs.Common.{◌≡◌, ℕ, ◌<◌, ◌≤◌, Bool, true, eqb, List, length, Some, get_or, set, sym, refl, ap, ◌∙◌, inl, inr, arith}
+use Rattle.std.proofs.lemmas.Bool.{cases_eq, cases_lt, eq-eqb}
 use Rattle.std.proofs.lemmas.List.{get_or-set_same, get_or-set_other}
+use Rattle.graph.specs.Reach.{Least}
+use Rattle.model.specs.Rollback.{linked}
 use Rattle.model.specs.Rows.{Rows}
 use Rattle.model.specs.Search.{has}
 use Rattle.rowset.specs.declared.RowSet.{RowSet}
@@ -15,11 +16,20 @@ use Rattle.rows.proofs.Lists.{any_found}
 pub has_element : (xs : List ℕ) (i : ℕ) → i < length xs → has (get_or xs i 0) xs ≡ true
 has_element xs i h = any_found (eqb (get_or xs i 0)) xs i 0 h (eq-eqb _ (get_or xs i 0) refl)
 
--- one row more whose set is known
-pub known_more : (r : Rows) (sets : List RowSet) (n : ℕ) (x : RowSet) → n < length sets
-    → ((q : ℕ) → q < n → HasLinks r q (links_at sets q)) → HasLinks r n x
-    → (q : ℕ) → q < n + 1 → HasLinks r q (links_at (set sets n x) q)
-known_more r sets n x room known here =
-    below_more (λ q. HasLinks r q (links_at (set sets n x) q)) n
-    (λ q l u. ap (λ s. contains s u) (get_or-set_other sets n q x no_set (λ e. omega arith)) ∙ known q l u)
-    (λ u. ap (λ s. contains s u) (get_or-set_same sets n x no_set room) ∙ here u)
+-- the sets of the wanted rows are known up to `last`, and t is the next of them
+module _ (r : Rows) (sets : List RowSet) (wanted : ℕ → Bool) (last t : ℕ) (next : Least (λ k. wanted k ≡ true) last (Some t))
+    (known : (q : ℕ) → q ≤ last → wanted q ≡ true → HasLinks r q (links_at sets q)) where
+  pub known_below : (q : ℕ) → q < t → wanted q ≡ true → HasLinks r q (links_at sets q)
+  known_below q l w = elim (cases_lt last q) [
+    | inl high ↦ absurd (next.2 q high l w)
+    | inr low ↦ known q low w
+  ]
+
+  pub known_more : (x : RowSet) → t < length sets → HasLinks r t x
+      → (q : ℕ) → q ≤ t → wanted q ≡ true → HasLinks r q (links_at (set sets t x) q)
+  known_more x room here q l w u = elim (cases_eq q t) [
+    | inl e ↦
+        ap (λ k. contains (links_at (set sets t x) k) u) e
+        ∙ ap (λ s. contains s u) (get_or-set_same sets t x no_set room) ∙ here u ∙ ap (λ k. linked r u k) (sym e)
+    | inr ne ↦ ap (λ s. contains s u) (get_or-set_other sets t q x no_set ne) ∙ known_below q (omega arith) w u
+  ]

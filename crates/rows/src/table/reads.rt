@@ -1,12 +1,11 @@
 // What a row holds, by its number.
-ghost use Rattle.std.specs.Prelude.{◌≡◌, ◌+◌, ◌≤◌, min, length, MatchOption};
+ghost use Rattle.std.specs.Prelude.{◌≡◌, ◌≤◌, length, MatchOption};
 ghost use Rattle.rows.specs.Columns.{no_row, row_at};
 ghost use Rattle.rows.specs.Tables.{rows_of, rolled_of};
 
 use super::RowTable;
 use crate::counted::numbered;
 use crate::row::Row;
-use std::ops::Range;
 use values::{Entry, Kind, RowState};
 
 // The entry of a row that is not there: an empty score.
@@ -21,14 +20,6 @@ impl RowTable {
         ensures { result ≡ (rows_of self.now).count }
     {
         self.rows.len() as u16
-    }
-
-    /// The numbers of the rows above this one.
-    pub(crate) fn above(&self, number: u16) -> Range<u16>
-        ensures start { result.start ≡ min number (rows_of self.now).count + 1 }
-        ensures end { result.end ≡ (rows_of self.now).count + 1 }
-    {
-        number.min(self.len()) + 1..self.len() + 1
     }
 
     // The row of that number.

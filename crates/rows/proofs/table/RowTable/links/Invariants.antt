@@ -1,4 +1,5 @@
-use Rattle.std.proofs.Common.{◌≡◌, ℕ, ◌<◌, length}
+use Rattle.std.proofs.Common.{◌≡◌, ℕ, ◌≤◌, ◌-◌, true, length}
+use Rattle.rowset.specs.Members.{contains}
 use Rattle.rows.specs.Linked.{links_at, HasLinks}
 use Rattle.rows.specs.Tables.{rows_of}
 use Rattle.rows.proofs.table.RowTable.links.Given as goal
@@ -7,5 +8,8 @@ abbrev pub invariant-loop-row : goal.invariant-loop-row
 invariant-loop-row l =
     record {
       size : length l.links ≡ 257;
-      known : (q : ℕ) → q < l.row → HasLinks (rows_of l.self) q (links_at l.links q);
+      known : (q : ℕ) → q ≤ l.last → contains l.wanted q ≡ true → HasLinks (rows_of l.self) q (links_at l.links q);
     }
+
+abbrev pub decreases-loop-row : goal.decreases-loop-row
+decreases-loop-row l = 65536 - l.last
