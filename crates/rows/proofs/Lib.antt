@@ -10,6 +10,7 @@ pub mod Leasts
 pub mod Links
 pub mod LinkSets
 pub mod Lists
+pub mod Members
 pub mod Numbered
 pub mod Passing
 pub mod Ranges

@@ -23,8 +23,8 @@ use rowset::RowSet;
 use values::{Mode, RowState};
 
 // The members of a set, as a list.
-fn listed(set: &RowSet) -> ArrayVec<u16, 256>
-    ensures { (k : ℕ) → has k result.items ≡ contains set.now k }
+fn listed(set: RowSet) -> ArrayVec<u16, 256>
+    ensures { (k : ℕ) → has k result.items ≡ contains set k }
 {
     let mut list = ArrayVec::new();
     let mut last = 0;
@@ -94,7 +94,7 @@ impl RowTable {
             scratch.old scratch.new }
     {
         let part = self.backward_rows(steps, f, scratch)?;
-        self.walk(Forth, listed(&part).as_slice(), scratch)
+        self.walk(Forth, listed(part).as_slice(), scratch)
     }
 
     // The rows that an abort strikes for which row `f` failed.
