@@ -12,6 +12,5 @@ pub mod LinkSets
 pub mod Lists
 pub mod Members
 pub mod Numbered
-pub mod Passing
 pub mod Ranges
 pub mod Walks
