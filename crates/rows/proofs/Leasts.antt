@@ -58,8 +58,8 @@ module _ (passes : ℕ → Bool) (xs : List ℕ) (after : ℕ) where
           let m = fold min y ys in
           let (there, least) = fold_least y ys in
           let (listed, fits) =
-              and_parts (has m xs) (ltb after m && passes m)
-              (sym (has_kept (λ j. ltb after j && passes j) m xs) ∙ sym (ap (has m) e) ∙ there) in
+          and_parts (has m xs) (ltb after m && passes m)
+          (sym (has_kept (λ j. ltb after j && passes j) m xs) ∙ sym (ap (has m) e) ∙ there) in
           let (above, fit) = and_parts (ltb after m) (passes m) fits in (
             ltb-true after m above,
             has_kept passes m xs ∙ and_from (has m xs) (passes m) listed fit,

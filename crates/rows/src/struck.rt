@@ -64,7 +64,12 @@ impl RowTable {
     ///
     /// What was marked before does not matter. The line wants a place for each row, and the column a mark for each;
     /// where one is too short, nothing changes. What the line holds afterwards is of no meaning.
-    pub fn backward_rows(&self, steps: &[Step], f: u16, scratch: &mut Scratch) -> Result<RowSet, NoRoom>
+    pub fn backward_rows(
+        &self,
+        steps: &[Step],
+        f: u16,
+        scratch: &mut Scratch,
+    ) -> Result<RowSet, NoRoom>
         ensures { Walked result (roomy_in (rows_of self.now).count scratch.old)
             (HasBackward (steps_only steps.now) (rows_of self.now) f) scratch.old scratch.new }
     {
@@ -107,7 +112,12 @@ impl RowTable {
     }
 
     /// The rows that an abort strikes. A complete abort needs no memory.
-    pub fn struck(&self, steps: &[Step], mode: Mode, scratch: &mut Scratch) -> Result<RowSet, NoRoom>
+    pub fn struck(
+        &self,
+        steps: &[Step],
+        mode: Mode,
+        scratch: &mut Scratch,
+    ) -> Result<RowSet, NoRoom>
         ensures { Walked result (not (is_partial mode) || roomy_in (rows_of self.now).count scratch.old)
             (HasStruck (steps_only steps.now) (rows_of self.now) mode) scratch.old scratch.new }
     {

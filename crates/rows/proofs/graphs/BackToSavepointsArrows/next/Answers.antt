@@ -1,4 +1,4 @@
-use Rattle.std.proofs.Common.{◌≡◌, ℕ, Bool, true, List, Option, not, ◌&&◌, ltb, filter, vec_items, rules, tests, sym, ap, ◌∙◌, subst}
+use Rattle.std.proofs.Common.{◌≡◌, ℕ, Bool, true, List, Option, not, ◌&&◌, ltb, filter, vec_items, rules, tests, sym, ◌∙◌, subst}
 use Rattle.std.proofs.lemmas.Iterator.{YieldsList-from_slice}
 use Rattle.std.proofs.lemmas.Iterator.Adapters.{option_map_id}
 use Rattle.std.proofs.lemmas.Iterator.Consumers.{YieldsList-from_copied, YieldsList-from_filter, min_from_yields_List}
@@ -23,8 +23,8 @@ returns c =
     let xs = c.predecessors.result.now in
     let free : ℕ → Bool = λ k. not (is_savepoint chart r k) in
     let is = min_from_yields_List _ _ c.min.ensures.ran
-        (YieldsList-from_filter _ (λ k. ltb after k && free k) (YieldsList-from_copied (YieldsList-from_slice xs cc))
-        c.filter.ensures.closure (λ x b q k. search (rules, tests))) in
+    (YieldsList-from_filter _ (λ k. ltb after k && free k) (YieldsList-from_copied (YieldsList-from_slice xs cc))
+    c.filter.ensures.closure (λ x b q k. search (rules, tests))) in
     let P : Option ℕ → Type 0 = Least (λ k. has k (filter free xs) ≡ true) after in
     let Q : List ℕ → Type 0 = λ ys. Least (λ k. has k (filter free ys) ≡ true) after c.min.result in
     least_drawn r.count (back (uncut chart r)) joins c.args.from after c.min.result

@@ -19,10 +19,10 @@ loop-row-preserved c =
     let number : is_number row ≡ true = member_number committed (omega arith) row c.in-Some.ensures.1 in
     let is : state row ≡ true = sym (are row) ∙ c.in-Some.ensures.1 in
     let passes : c.is_set.result ≡ (state row && marked xs row) =
-        c.is_set.ensures ∙ ap (marked xs) c.from.ensures
-        ∙ sym (ap (λ b. b && marked xs row) is) in
+    c.is_set.ensures ∙ ap (marked xs) c.from.ensures
+    ∙ sym (ap (λ b. b && marked xs row) is) in
     let written : (k : ℕ) → contains c.put.new.self k ≡ cond (eqb k row) (state row && marked xs row) (contains c.loop-row.set k) =
-        (λ k. c.put.ensures k ∙ once_put c.is_set.result (contains c.loop-row.set k) row k number
-        ∙ ap (λ b. cond (eqb k row) b (contains c.loop-row.set k)) passes) in
+    (λ k. c.put.ensures k ∙ once_put c.is_set.result (contains c.loop-row.set k) row k number
+    ∙ ap (λ b. cond (eqb k row) b (contains c.loop-row.set k)) passes) in
     up_to_more (contains committed) (λ k. state k && marked xs k) (λ k h t. are k ∙ (and_parts (state k) (marked xs k) t).0)
     c.loop-row.last row (contains c.loop-row.set) (contains c.put.new.self) c.loop-row.invariant c.in-Some.ensures written

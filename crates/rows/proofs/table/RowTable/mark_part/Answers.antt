@@ -20,7 +20,7 @@ returns c =
     let first = c.in_ok-part.ensures in
     let second = c.walk.ensures in
     let same_room : roomy n (length between.line.now) (length (held between.marks.now)) ≡ roomy n (length before.line.now) (length (held before.marks.now)) =
-        ap₂ (roomy n) first.loans.places first.loans.kept.size in
+    ap₂ (roomy n) first.loans.places first.loans.kept.size in
     let ok : is_ok c.walk.result ≡ true = second.test ∙ same_room ∙ sym first.test in
     let walked = at_ok _ _ c.walk.result ok second.answer in
     let starts = c.as_slice.result.now in

@@ -1,4 +1,4 @@
-use Rattle.std.proofs.Common.{◌≡◌, ℕ, Bool, ◌||◌, vec_items, sym, ap, ◌∙◌, ap₂}
+use Rattle.std.proofs.Common.{ℕ, Bool, ◌||◌, vec_items, sym, ap, ◌∙◌, ap₂}
 use Rattle.model.specs.Search.{has}
 use Rattle.rowset.specs.Members.{contains}
 use Rattle.rows.specs.Tables.{rows_of}
