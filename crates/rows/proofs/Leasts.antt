@@ -1,5 +1,5 @@
 -- The least number of a list that is above another. Assumes nothing.
-use Rattle.std.proofs.Common.{◌≡◌, ℕ, ◌<◌, ◌≤◌, min, true, false, eqb, ltb, List, [], ◌∷◌, filter, Some, None, Option, sym, refl, ap, ◌∙◌, inl, inr, ⊎_elim, arith}
+use Rattle.std.proofs.Common.{◌≡◌, ℕ, ◌<◌, ◌≤◌, min, Bool, true, false, ◌&&◌, eqb, ltb, List, [], ◌∷◌, filter, Some, None, Option, sym, refl, ap, ◌∙◌, inl, inr, ⊎_elim, arith}
 use borrow.Author.Tests.{clash}
 use Rattle.std.specs.List.{fold, reduce}
 use Rattle.std.proofs.lemmas.Bool.{and_from, and_parts, cases_lt, eq-eqb, eqb-true, lt-ltb, ltb-true, or_cases, or_left, or_right}
@@ -38,20 +38,30 @@ fold_least x (y ∷ zs) =
           (or_cases (eqb k x) (has k (y ∷ zs)) h)),
     )
 
--- the least of those above `after`
-pub least_above : (xs : List ℕ) (after : ℕ) → Least (λ k. has k xs ≡ true) after (reduce min (filter (ltb after) xs))
-least_above xs after = go (filter (ltb after) xs) refl
-  where
-    kept : (k : ℕ) → after < k → has k xs ≡ true → has k (filter (ltb after) xs) ≡ true
-    kept k l h = has_kept (ltb after) k xs ∙ and_from (has k xs) (ltb after k) h (lt-ltb after k l)
+-- the least of those above `after` that pass a test
+module _ (passes : ℕ → Bool) (xs : List ℕ) (after : ℕ) where
+  abbrev kept : List ℕ
+  kept = filter (λ k. ltb after k && passes k) xs
 
-    go : (ys : List ℕ) → ys ≡ filter (ltb after) xs → Least (λ k. has k xs ≡ true) after (reduce min ys)
-    go [] e = λ k l h. clash (ap (has k) e ∙ kept k l h)
-    go (y ∷ ys) e =
-        let m = fold min y ys in
-        let (there, least) = fold_least y ys in
-        let (listed, above) = and_parts (has m xs) (ltb after m) (sym (has_kept (ltb after) m xs) ∙ sym (ap (has m) e) ∙ there) in (
-          ltb-true after m above,
-          listed,
-          (λ k l u h. let le = least k (ap (has k) e ∙ kept k l h) in omega arith),
-        )
+  stays : (k : ℕ) → after < k → has k (filter passes xs) ≡ true → has k kept ≡ true
+  stays k l h =
+      let (listed, fit) = and_parts (has k xs) (passes k) (sym (has_kept passes k xs) ∙ h) in
+      has_kept (λ j. ltb after j && passes j) k xs
+      ∙ and_from (has k xs) (ltb after k && passes k) listed (and_from (ltb after k) (passes k) (lt-ltb after k l) fit)
+
+  pub least_kept : Least (λ k. has k (filter passes xs) ≡ true) after (reduce min kept)
+  least_kept = go kept refl
+    where
+      go : (ys : List ℕ) → ys ≡ kept → Least (λ k. has k (filter passes xs) ≡ true) after (reduce min ys)
+      go [] e = λ k l h. clash (ap (has k) e ∙ stays k l h)
+      go (y ∷ ys) e =
+          let m = fold min y ys in
+          let (there, least) = fold_least y ys in
+          let (listed, fits) =
+          and_parts (has m xs) (ltb after m && passes m)
+          (sym (has_kept (λ j. ltb after j && passes j) m xs) ∙ sym (ap (has m) e) ∙ there) in
+          let (above, fit) = and_parts (ltb after m) (passes m) fits in (
+            ltb-true after m above,
+            has_kept passes m xs ∙ and_from (has m xs) (passes m) listed fit,
+            (λ k l u h. let le = least k (ap (has k) e ∙ stays k l h) in omega arith),
+          )

@@ -8,6 +8,7 @@ pub mod Leasts
 pub mod Links
 pub mod LinkSets
 pub mod Lists
+pub mod Members
 pub mod Numbered
 pub mod Ranges
 pub mod Searches
