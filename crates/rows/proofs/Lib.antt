@@ -1,3 +1,4 @@
+pub mod Aborts
 pub mod Arrows
 pub mod Below
 pub mod Columns

@@ -78,14 +78,18 @@ due_above_is rows row o h = some_above (length rows + 1) row due (λ k. ltb row 
 -- ── a search that goes from member to member ──
 
 module _ (p q : ℕ → Bool) (only : (k : ℕ) → p k ≡ false → q k ≡ false) (after : ℕ) (none : (k : ℕ) → k ≤ after → q k ≡ false) where
-  -- none up to the next member, which fails
-  pub none_more : (t : ℕ) → Least (λ k. p k ≡ true) after (Some t) → q t ≡ false → (k : ℕ) → k ≤ t → q k ≡ false
-  none_more t (high, here, least) fails k l = elim (cases_lt after k) [
+  -- none before the next member
+  pub none_below : (t : ℕ) → Least (λ k. p k ≡ true) after (Some t) → (k : ℕ) → k < t → q k ≡ false
+  none_below t next k l = elim (cases_lt after k) [
     | inr low ↦ none k low
-    | inl h ↦ elim (cases_eq k t) [
-      | inl e ↦ ap q e ∙ fails
-      | inr ne ↦ only k (false_from_ne_true _ (least k h (omega arith)))
-    ]
+    | inl h ↦ only k (false_from_ne_true _ (next.2 k h l))
+  ]
+
+  -- nor up to it, where it fails
+  pub none_more : (t : ℕ) → Least (λ k. p k ≡ true) after (Some t) → q t ≡ false → (k : ℕ) → k ≤ t → q k ≡ false
+  none_more t next fails k l = elim (cases_eq k t) [
+    | inl e ↦ ap q e ∙ fails
+    | inr ne ↦ none_below t next k (omega arith)
   ]
 
   -- and none at all where there is no next member

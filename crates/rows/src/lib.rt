@@ -6,6 +6,7 @@ mod graphs;
 mod paths;
 mod row;
 mod steps;
+mod struck;
 mod table;
 
 pub use row::{Row, first_eight};

@@ -81,14 +81,22 @@ impl RowTable {
         links
     }
 
+    // Some rows, with all that are passed over.
+    fn with_passed(&self, rows: &RowSet) -> RowSet
+        ensures { (k : ℕ) → contains result k ≡ (in_state (rows_of self.now) PassedOver k || contains rows.now k) }
+    {
+        let mut wanted = self.rows_in(RowState::PassedOver);
+        wanted.join(rows);
+        wanted
+    }
+
     /// The rows linked to each row of a set, by its number.
     // those linked to rows that are passed over are found too: links lead through them
     pub fn links(&self, rows: &RowSet) -> [RowSet; 257]
         ensures { (v : ℕ) → contains rows.now v ≡ true → HasLinks (rows_of self.now) v (links_at result v) }
     {
         let mut links = [RowSet::new(); 257];
-        let mut wanted = self.rows_in(RowState::PassedOver);
-        wanted.join(rows);
+        let wanted = self.with_passed(rows);
         let mut last = 0;
         while let Some(row) = wanted.next_above(last) {
             links[row as usize] = self.links_of(row, &links);
