@@ -31,12 +31,6 @@ pub row_found : (rows : List Row) (k : ℕ) (o : Option (Bor Row)) → option_co
     → MatchOption o (row_at rows k ≡ no_row) (λ y. y.now ≡ row_at rows k)
 row_found rows k o e = found no_row rows k o e
 
--- the same, where rows are counted from 0
-pub row_index : (rows : List Row) (i : ℕ) (y : Row) → i < length rows → y ≡ get_or rows i y → y ≡ row_at rows (i + 1)
-row_index rows i y l e =
-    let q : i ≡ (i + 1) - 1 = omega arith in
-    row_inside rows (i + 1) y (omega arith) (omega arith) (e ∙ ap (λ k. get_or rows k y) q)
-
 -- a row that is not absent has a number from 1 to the length
 pub known_within : (rows : List Row) (k : ℕ) → same_state (row_at rows k).state Absent ≡ false → (0 < k) × (k ≤ length rows)
 known_within rows k h =

@@ -151,7 +151,7 @@ module _ (c : Chart) (r : Rows) (struck : ℕ → Bool) (number : ℕ) (rolled :
       ap (λ b. fallen (r.state k) b (idle c r k)) not_struck ∙ fallen_not (r.state k) (idle c r k) not_running
 
   rolled_stays : (k : ℕ) → falling k ≡ false → rolled_after k ≡ rolled k
-  rolled_stays k out = 
+  rolled_stays k out =
       let stays : (in_state r Running k || taken k) ≡ false = let is = are k in grind arith in
       ap (λ b. cond b number (rolled k)) stays
 

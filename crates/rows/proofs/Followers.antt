@@ -1,8 +1,7 @@
 -- The sets of followers, read and written. Assumes nothing.
-use Rattle.std.proofs.Common.{◌≡◌, ℕ, ◌+◌, ◌-◌, ◌<◌, ◌≤◌, true, false, ◌&&◌, ◌||◌, eqb, ◌⊎◌, List, [], ◌∷◌, ◌++◌, length, get_or, set, take, None, Option, sym, ap, ◌∙◌, subst, inl, inr, arith}
-use Rattle.std.proofs.lemmas.Bool.{both_ways, cases_Bool, cases_eq, eq-eqb, ne_eqb}
+use Rattle.std.proofs.Common.{◌≡◌, ℕ, ◌+◌, ◌-◌, ◌<◌, ◌≤◌, true, false, ◌&&◌, ◌||◌, eqb, ◌⊎◌, List, [], ◌∷◌, ◌++◌, length, get_or, set, take, sym, ap, ◌∙◌, subst, inl, inr, arith}
+use Rattle.std.proofs.lemmas.Bool.{cases_Bool, cases_eq, eq-eqb, ne_eqb}
 use Rattle.std.proofs.lemmas.List.{get_or_default}
-use Rattle.graph.specs.Reach.{Least}
 use Rattle.model.specs.Search.{has, at_put}
 use Rattle.model.specs.Sheets.{Lower}
 use Rattle.model.proofs.Basics.{put_same, put_other}
@@ -15,7 +14,6 @@ use Rattle.rows.specs.Columns.{no_row, preds_of, Positive}
 use Rattle.rows.specs.Followers.{HaveFollowers, Told, Tell}
 use Rattle.rows.specs.States.{no_set, set_at, HaveStates}
 use Rattle.rows.proofs.Arrows.{no_preds, joins_forth}
-use Rattle.rows.proofs.Leasts.{least_like}
 use Rattle.rows.proofs.Lists.{any_more}
 use Rattle.rows.proofs.Numbered.{inside as in_list, past, item_set, item_push}
 
@@ -38,23 +36,6 @@ told_kept sets states rows new preds long have t = tell (record {
   places = (told t).places;
   states = have;
 })
-
--- ── read ──
-
-module _ (sets : List RowSet) (preds : ℕ → List ℕ) (have : HaveFollowers sets preds) (k after : ℕ) where
-  least_follower : (o : Option ℕ) → Least (λ v. contains (set_at sets k) v ≡ true) after o
-      → Least (λ v. has k (preds v) ≡ true) after o
-  least_follower o h =
-      least_like (λ v. contains (set_at sets k) v ≡ true) (λ v. has k (preds v) ≡ true) after o
-      (λ v m. sym (have k v) ∙ m) (λ v m. have k v ∙ m) h
-
-  pub next_in : (s : RowSet) (o : Option ℕ) → s ≡ set_at sets k → Least (λ v. contains s v ≡ true) after o
-      → Least (λ v. has k (preds v) ≡ true) after o
-  next_in s o e h = let P : RowSet → Type 0 = λ x. Least (λ v. contains x v ≡ true) after o in least_follower o (subst P e h)
-
-  -- a number that has no set has no followers
-  pub no_follower : set_at sets k ≡ no_set → Least (λ v. has k (preds v) ≡ true) after None
-  no_follower e = λ v l m. both_ways (has k (preds v)) (sym (have k v) ∙ ap (λ s. contains s v) e ∙ none_in_none v) m
 
 -- ── a row made a follower of one more predecessor ──
 

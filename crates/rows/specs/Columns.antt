@@ -1,12 +1,9 @@
 -- A list of rows as the model's columns. Assumes nothing.
-use Rattle.std.specs.Prelude.{◌≡◌, ℕ, ◌-◌, ◌≤◌, Bool, true, cond, not, ◌&&◌, ◌||◌, List, [], length, is_some, None, Option, ◌==◌, nat_le, nat_lt, slice_get, slice_index_or}
+use Rattle.std.specs.Prelude.{◌≡◌, ℕ, ◌-◌, ◌≤◌, Bool, true, cond, not, ◌&&◌, List, [], length, None, Option, ◌==◌, nat_le, nat_lt, slice_get, slice_index_or}
 use Rattle.values.specs.declared.Flow.{Flow}
-use Rattle.values.specs.declared.RowState.TheVariants.{Absent, Running, Committed}
+use Rattle.values.specs.declared.RowState.TheVariants.{Absent}
 use Rattle.model.specs.Search.{any, has}
-use Rattle.values.specs.Numbers.{same_state}
-use Rattle.process.specs.declared.parts.Step.{Step}
-use Rattle.model.specs.Chart.{by_flow, step_at}
-use Rattle.model.specs.Rollback.{fallen}
+use Rattle.model.specs.Chart.{by_flow}
 use Rattle.model.specs.Rows.{Rows, no_entry, is_row, live}
 use Rattle.rows.specs.declared.row.Row.{Row}
 
@@ -50,22 +47,3 @@ Positive preds = (v w : ℕ) → has w (preds v) ≡ true → 1 ≤ w
 -- step k where it is "all"
 abbrev pub follows : Rows → Flow → ℕ → ℕ → ℕ → Bool
 follows r exit k f v = (live (r.state v) && has f (r.preds v)) && by_flow exit true (r.step v == k)
-
--- a row of a step, after an abort that struck it or not
-abbrev pub row_idle : List Step → Row → Bool
-row_idle steps y =
-    not (step_at (steps, []) y.step).counterpart
-    || (not (step_at (steps, []) y.step).private && not (is_some y.entry.number))
-
--- a row after an abort with this number: it is struck if it is committed and marked
-abbrev pub row_struck : Bool → Row → Bool
-row_struck mark y = same_state y.state Committed && mark
-
-abbrev pub row_fallen : List Step → Bool → ℕ → Row → Row
-row_fallen steps mark number y = record {
-  step = y.step;
-  predecessors = y.predecessors;
-  entry = y.entry;
-  state = fallen y.state (row_struck mark y) (row_idle steps y);
-  rolled = cond (same_state y.state Running || row_struck mark y) number y.rolled;
-}

@@ -1,5 +1,4 @@
 use Rattle.std.proofs.Common.{◌≡◌, ℕ, ◌&&◌, ◌||◌, Bool, true, [], cond, eqb, refl, ap, ap₂, ◌∙◌}
-use Rattle.values.specs.declared.RowState.{RowState}
 use Rattle.values.specs.declared.RowState.TheVariants.{Running}
 use Rattle.rowset.specs.Members.{contains}
 use Rattle.model.specs.Chart.{Chart}

@@ -1,4 +1,4 @@
-use Rattle.std.proofs.Common.{◌≡◌, ℕ, ◌&&◌, [], cond, eqb, true, ap, ap₂, ◌∙◌}
+use Rattle.std.proofs.Common.{[], cond, true, ap, ap₂, ◌∙◌}
 use Rattle.values.specs.declared.RowState.TheVariants.{Absent}
 use Rattle.model.specs.Rollback.{fallen}
 use Rattle.model.specs.Rows.{Rows, idle, in_state, marked}

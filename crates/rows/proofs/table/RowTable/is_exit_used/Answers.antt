@@ -1,5 +1,5 @@
 -- Only live followers use an exit.
-use Rattle.std.proofs.Common.{◌≡◌, ℕ, ◌+◌, true, false, eqb, vec_items, sym, ap, ◌∙◌, arith}
+use Rattle.std.proofs.Common.{◌+◌, true, eqb, vec_items, sym, ap, ◌∙◌, arith}
 use Rattle.std.proofs.lemmas.Bool.{and_from, and_left, and_parts, and_right}
 use Rattle.model.specs.Chart.{by_flow}
 use Rattle.rowset.specs.Members.{contains}

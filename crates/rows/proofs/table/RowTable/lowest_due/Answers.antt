@@ -1,4 +1,4 @@
-use Rattle.std.proofs.Common.{◌≡◌, ℕ, ◌+◌, ◌≤◌, Bool, true, false, List, ◌&&◌, ltb, sym, ap, ◌∙◌, vec_items, arith}
+use Rattle.std.proofs.Common.{◌≡◌, ℕ, ◌+◌, Bool, true, false, List, ◌&&◌, ltb, sym, ap, ◌∙◌, vec_items, arith}
 use Rattle.std.proofs.lemmas.Bool.{and_from, and_left, and_right, le-ltb, lt-ltb}
 use Rattle.values.specs.declared.RowState.TheVariants.{Due}
 use Rattle.graph.specs.Column.{marked}

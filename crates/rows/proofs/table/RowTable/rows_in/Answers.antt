@@ -1,5 +1,4 @@
-use Rattle.std.proofs.Common.{List, Some, None, sym, ap, ◌∙◌}
-use Rattle.rowset.specs.declared.RowSet.{RowSet}
+use Rattle.std.proofs.Common.{Some, None, sym, ap, ◌∙◌}
 use Rattle.rowset.specs.Members.{contains}
 use Rattle.rowset.proofs.Members.{none_in_none}
 use Rattle.rows.specs.States.{no_set, set_at}

@@ -1,7 +1,5 @@
 -- One row's rollback written: it is a row, since it is live.
-use Rattle.std.proofs.Common.{◌≡◌, ℕ, ◌-◌, ◌≤◌, true, sym, ap, ◌∙◌, subst, length-set}
-use Rattle.values.specs.declared.RowState.{RowState}
-use Rattle.model.specs.Rows.{live}
+use Rattle.std.proofs.Common.{◌-◌, sym, ◌∙◌, subst, length-set}
 use Rattle.model.specs.Sheets.{Lower}
 use Rattle.rows.specs.Columns.{row_at, Positive}
 use Rattle.rows.proofs.Columns.{row_inside, columns_rolled, preds_rolled, rolled_written, states_rolled}

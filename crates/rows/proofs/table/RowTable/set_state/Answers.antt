@@ -1,10 +1,9 @@
 -- One row's state written: it is a row, since it is not absent.
-use Rattle.std.proofs.Common.{◌≡◌, ◌-◌, false, cond, ◌&&◌, eqb, rules, tests, sym, ap, ◌∙◌, subst, arith, length-set}
+use Rattle.std.proofs.Common.{◌≡◌, ◌-◌, false, cond, rules, tests, sym, ap, ◌∙◌, subst, arith, length-set}
 use Rattle.values.specs.Numbers.{same_state}
-use Rattle.values.specs.declared.RowState.TheVariants.{Absent, Due}
+use Rattle.values.specs.declared.RowState.TheVariants.{Absent}
 use Rattle.model.specs.Rows.{marked}
 use Rattle.model.specs.Sheets.{Lower}
-use Rattle.rowset.specs.Members.{is_number, contains}
 use Rattle.rows.specs.Columns.{row_at, columns, Positive}
 use Rattle.rows.proofs.Columns.{known_within, row_inside, columns_marked, rolled_marked, preds_marked, states_marked}
 use Rattle.rows.proofs.Followers.{told, told_kept}
