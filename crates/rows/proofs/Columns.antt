@@ -18,7 +18,7 @@ use Rattle.model.specs.Sheets.{Lower}
 use Rattle.model.proofs.Basics.{put_all}
 use Rattle.std.proofs.lemmas.Bool.{eqb-true}
 use Rattle.arrayvec.specs.ArrayVec.{ArrayVec}
-use Rattle.rows.specs.Columns.{no_row, numbered, row_at, preds_of, columns, Positive}
+use Rattle.rows.specs.Columns.{no_row, numbered, row_at, preds_of, steps_of, columns, Positive}
 
 pub row_past : (rows : List Row) (k : ℕ) → (k ≡ 0) ⊎ (length rows < k) → no_row ≡ row_at rows k
 row_past rows k o = past no_row rows k o
@@ -91,13 +91,16 @@ module _ (rows : List Row) (k : ℕ) (y : Row) (n : ℕ) (low : 0 < k) (high : k
   pub preds_rolled : preds_of rolled_rows ≡ preds_of rows
   preds_rolled = stays (λ r. r.predecessors.items) refl
 
+  pub steps_rolled : steps_of rolled_rows ≡ steps_of rows
+  steps_rolled = stays (λ r. r.step) refl
+
   pub states_rolled : ◌≡◌ {A = ℕ → RowState} (λ j. (row_at rolled_rows j).state) (λ j. (row_at rows j).state)
   states_rolled = stays (λ r. r.state) refl
 
   pub columns_rolled : columns rolled_rows ≡ columns rows
   columns_rolled = λ i. record {
     count = length-set rows (k - 1) (rolled_by y n) i;
-    step = stays (λ r. r.step) refl i;
+    step = steps_rolled i;
     preds = preds_rolled i;
     entry = stays (λ r. r.entry) refl i;
     state = states_rolled i;
@@ -115,13 +118,16 @@ module _ (rows : List Row) (k : ℕ) (y : Row) (to : RowState) (low : 0 < k) (hi
   pub preds_marked : preds_of (set rows (k - 1) (turned y to)) ≡ preds_of rows
   preds_marked = stays_marked (λ r. r.predecessors.items) refl
 
+  pub steps_marked : steps_of (set rows (k - 1) (turned y to)) ≡ steps_of rows
+  steps_marked = stays_marked (λ r. r.step) refl
+
   pub states_marked : ◌≡◌ {A = ℕ → RowState} (λ j. (row_at (set rows (k - 1) (turned y to)) j).state) (at_put (λ j. (row_at rows j).state) k to)
   states_marked = written rows k y (turned y to) low high is (λ r. r.state)
 
   pub columns_marked : columns (set rows (k - 1) (turned y to)) ≡ marked (columns rows) k to
   columns_marked = λ i. record {
     count = length-set rows (k - 1) (turned y to) i;
-    step = stays_marked (λ r. r.step) refl i;
+    step = steps_marked i;
     preds = preds_marked i;
     entry = stays_marked (λ r. r.entry) refl i;
     state = states_marked i;
@@ -144,13 +150,16 @@ module _ (rows : List Row) (step : ℕ) (ps : ArrayVec ℕ) (fs : List ℕ) (e :
   pub preds_grown : preds_of more ≡ at_put (preds_of rows) (length rows + 1) fs
   preds_grown = grown (λ r. r.predecessors.items) ∙ ap (at_put (preds_of rows) (length rows + 1)) is
 
+  pub steps_grown : steps_of more ≡ at_put (steps_of rows) (length rows + 1) step
+  steps_grown = grown (λ r. r.step)
+
   pub states_grown : ◌≡◌ {A = ℕ → RowState} (λ j. (row_at more j).state) (at_put (λ j. (row_at rows j).state) (length rows + 1) Running)
   states_grown = grown (λ r. r.state)
 
   pub columns_added : columns more ≡ added (columns rows) step fs e
   columns_added = λ i. record {
     count = length_push rows (opened step ps e) i;
-    step = grown (λ r. r.step) i;
+    step = steps_grown i;
     preds = preds_grown i;
     entry = grown (λ r. r.entry) i;
     state = states_grown i;

@@ -1,5 +1,5 @@
 -- The sets of followers, read and written. Assumes nothing.
-use Rattle.std.proofs.Common.{◌≡◌, ℕ, ◌+◌, ◌-◌, ◌<◌, ◌≤◌, true, false, ◌&&◌, ◌||◌, eqb, ◌⊎◌, List, [], ◌∷◌, ◌++◌, length, get_or, set, take, sym, ap, ◌∙◌, subst, inl, inr, arith}
+use Rattle.std.proofs.Common.{◌≡◌, ℕ, ◌+◌, ◌-◌, ◌<◌, ◌≤◌, true, false, not, ◌&&◌, ◌||◌, eqb, leb, ◌⊎◌, List, [], ◌∷◌, ◌++◌, length, get_or, set, take, sym, ap, ap₂, ◌∙◌, subst, inl, inr, arith}
 use Rattle.std.proofs.lemmas.Bool.{cases_Bool, cases_eq, eq-eqb, ne_eqb}
 use Rattle.std.proofs.lemmas.List.{get_or_default}
 use Rattle.model.specs.Search.{has, at_put}
@@ -10,7 +10,8 @@ use Rattle.rowset.specs.Members.{is_number, contains}
 use Rattle.rowset.proofs.Members.{none_in_none}
 use Rattle.rows.specs.declared.row.Row.{Row}
 use Rattle.rows.specs.declared.table.Sets.{Sets}
-use Rattle.rows.specs.Columns.{no_row, preds_of, Positive}
+use Rattle.rows.specs.Highest.{has_higher}
+use Rattle.rows.specs.Columns.{no_row, preds_of, steps_of, Positive}
 use Rattle.rows.specs.Followers.{HaveFollowers, Told, Tell}
 use Rattle.rows.specs.States.{no_set, set_at, HaveStates}
 use Rattle.rows.proofs.Arrows.{no_preds, joins_forth}
@@ -27,14 +28,17 @@ pub tell : {sets : Sets} {rows : List Row} → Told sets rows → Tell sets rows
 unfolding Tell
 tell t = t
 
--- rows whose predecessors stay
-pub told_kept : (sets : Sets) (states : List RowSet) (rows new : List Row) → preds_of rows ≡ preds_of new → length new ≡ length rows
-    → HaveStates states new → Tell sets rows → Tell (record { followers = sets.followers; states = states }) new
-told_kept sets states rows new preds long have t = tell (record {
+-- rows whose predecessors and steps stay
+pub told_kept : (sets : Sets) (states : List RowSet) (rows new : List Row) → preds_of rows ≡ preds_of new
+    → steps_of rows ≡ steps_of new → length new ≡ length rows → HaveStates states new
+    → Tell sets rows → Tell (record { followers = sets.followers; states = states; highest = sets.highest }) new
+told_kept sets states rows new preds steps long have t = tell (record {
   followers = subst (HaveFollowers sets.followers.items) preds (told t).followers;
   level = (told t).level ∙ sym long;
   places = (told t).places;
   states = have;
+  highest = λ k. (told t).highest k
+      ∙ ap₂ (λ (step : ℕ → ℕ) n. (leb 1 k && leb k n) && not (has_higher step (n + 1) k)) steps (sym long);
 })
 
 -- ── a row made a follower of one more predecessor ──

@@ -5,6 +5,7 @@ pub mod Columns
 pub mod Falls
 pub mod Followers
 pub mod Later
+pub mod Highest
 pub mod Leasts
 pub mod Links
 pub mod LinkSets

@@ -1,7 +1,7 @@
 -- Sets gone through from their lowest member up. Assumes nothing.
 use Rattle.std.proofs.Common.{◌≡◌, ℕ, zero, suc, ◌+◌, ◌<◌, ◌≤◌, Bool, true, false, cond, ◌&&◌, ◌||◌, eqb, leb, length, Some, None, add-one, ap, sym, ◌∙◌, inl, inr, arith}
 use borrow.Author.Tests.{clash}
-use Rattle.std.proofs.lemmas.Bool.{and_left, and_right, cases_Bool, cases_eq, cases_lt, eq-eqb, ne_eqb}
+use Rattle.std.proofs.lemmas.Bool.{and_left, and_parts, and_right, cases_Bool, cases_eq, cases_lt, eq-eqb, ne_eqb}
 use Rattle.std.proofs.lemmas.Bool.Decides.{nat_tests}
 use Rattle.graph.specs.Reach.{Least}
 use Rattle.rowset.specs.declared.RowSet.{RowSet}
@@ -54,6 +54,24 @@ once_put passes found n k number = elim (cases_eq k n) [
   | inl e ↦ let at = eq-eqb k n e in let here = ap is_number e ∙ number in grind arith
   | inr ne ↦ let other = ne_eqb k n ne in grind arith
 ]
+
+-- those members that pass a test, found one after another
+pub kept_more : (set : RowSet) → length set.words ≡ 4 → (member test : ℕ → Bool) → ((k : ℕ) → contains set k ≡ member k)
+    → (last row : ℕ) → Least (λ k. contains set k ≡ true) last (Some row)
+    → (passes : Bool) → passes ≡ test row → (found now : ℕ → Bool) → UpTo (λ k. member k && test k) last found
+    → ((k : ℕ) → now k ≡ cond (eqb k row) (passes && is_number k) (found k)) → UpTo (λ k. member k && test k) row now
+kept_more set long member test are last row next passes is found now before put =
+    up_to_more (contains set) (λ k. member k && test k) (λ k h t. are k ∙ (and_parts (member k) (test k) t).0)
+    last row found now before next written
+  where
+    number : is_number row ≡ true
+    number = member_number set long row next.1
+
+    here : passes ≡ (member row && test row)
+    here = is ∙ sym (ap (λ b. b && test row) (sym (are row) ∙ next.1))
+
+    written : (k : ℕ) → now k ≡ cond (eqb k row) (member row && test row) (found k)
+    written k = put k ∙ once_put passes (found k) row k number ∙ ap (λ b. cond (eqb k row) b (found k)) here
 
 -- ── some of the members ──
 

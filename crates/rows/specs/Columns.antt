@@ -26,10 +26,14 @@ row_at rows k = cond (k == 0) no_row (slice_index_or rows (k - 1) no_row)
 abbrev pub preds_of : List Row → ℕ → List ℕ
 preds_of rows k = (row_at rows k).predecessors.items
 
+-- the step of a row, by its number
+abbrev pub steps_of : List Row → ℕ → ℕ
+steps_of rows k = (row_at rows k).step
+
 abbrev pub columns : List Row → Rows
 columns rows = record {
   count = length rows;
-  step = λ k. (row_at rows k).step;
+  step = steps_of rows;
   preds = preds_of rows;
   entry = λ k. (row_at rows k).entry;
   state = λ k. (row_at rows k).state;

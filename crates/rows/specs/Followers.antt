@@ -9,6 +9,7 @@ use Rattle.rowset.specs.Members.{contains}
 use Rattle.rows.specs.declared.row.Row.{Row}
 use Rattle.rows.specs.declared.table.Sets.{Sets}
 use Rattle.rows.specs.Columns.{preds_of}
+use Rattle.rows.specs.Highest.{HasHighest}
 use Rattle.rows.specs.States.{set_at, HaveStates}
 
 -- the set of each row has the rows that follow it by one arrow, and no others
@@ -21,6 +22,7 @@ pub record Told (sets : Sets) (rows : List Row) : Type 0 where
   pub level : vec_len sets.followers ≡ length rows
   pub places : 256 ≤ vec_capacity sets.followers
   pub states : HaveStates sets.states rows
+  pub highest : HasHighest sets.highest rows
 
 -- the same as a word that does not unfold by itself: a search for a proof would else go through it wherever a table stands
 unfoldable pub Tell : Sets → List Row → Type 0
@@ -33,4 +35,5 @@ Tell-prop sets rows a b i = record {
   level = ℕ_set _ _ a.level b.level i;
   places = le_prop a.places b.places i;
   states = λ st k. Bool-set _ _ (a.states st k) (b.states st k) i;
+  highest = λ k. Bool-set _ _ (a.highest k) (b.highest k) i;
 }

@@ -2,6 +2,7 @@
 pub mod Arrows
 pub mod Columns
 pub mod Followers
+pub mod Highest
 pub mod Linked
 pub mod Marking
 pub mod States

@@ -9,6 +9,7 @@ use rowset::RowSet;
 
 mod by_state;
 mod falls;
+mod highest;
 mod reads;
 pub(crate) mod searches;
 mod writes;
@@ -20,12 +21,13 @@ const MOST_ROWS: usize = 256;
 #[derive(Clone, Copy, PartialEq, Eq, Debug, Drop)]
 pub struct Unfit;
 
-/// The sets that searches of a table's rows go through: the followers of each row by one arrow, and the rows in each
-/// state but absent, by the state's number.
+/// The sets that searches of a table's rows go through: the followers of each row by one arrow, the rows in each
+/// state but absent, by the state's number, and the highest row of each step.
 #[derive(Drop)]
 struct Sets {
     followers: Vec<RowSet>,
     states: [RowSet; 6],
+    highest: RowSet,
 }
 
 /// The rows of a sheet, numbered from 1, and sets of them.

@@ -37,7 +37,12 @@ impl RowTable {
         let rows = Vec::with_capacity(heap, MOST_ROWS)?;
         let followers = Vec::with_capacity(heap, MOST_ROWS)?;
         let states = [RowSet::new(); 6];
-        let sets = Sets { followers, states };
+        let highest = RowSet::new();
+        let sets = Sets {
+            followers,
+            states,
+            highest,
+        };
         Ok(RowTable { rows, sets })
     }
 
@@ -81,8 +86,11 @@ impl RowTable {
             return Err(Unfit);
         }
         let row = self.len() + 1;
+        let mut highest = self.highest_of_others(step);
+        highest.insert(row);
         add_follower(&mut self.sets.followers, predecessors, row);
         put_in(&mut self.sets.states, RowState::Running, row, true);
+        self.sets.highest = highest;
         self.sets.followers.push_reserved(RowSet::new());
         self.rows.push_reserved(Row {
             step,

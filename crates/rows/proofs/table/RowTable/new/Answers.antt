@@ -1,4 +1,5 @@
 use Rattle.std.proofs.Common.{length, sym, ap, ◌∙◌}
+use Rattle.rows.proofs.Highest.{none_highest}
 use Rattle.rows.proofs.States.{none_in_any}
 use Rattle.rows.proofs.Followers.{no_followers, tell}
 use Rattle.rows.proofs.table.RowTable.new.Goals as goal
@@ -12,4 +13,5 @@ invariant_of-result-clause-told c =
       level = c.in_ok-followers.ensures.len ∙ sym (ap length rows);
       places = c.in_ok-followers.ensures.capacity;
       states = none_in_any _ _ rows c.new-states.ensures;
+      highest = none_highest _ _ rows c.new-highest.ensures;
     })

@@ -9,13 +9,14 @@ use Rattle.rowset.specs.declared.RowSet.{RowSet}
 use Rattle.rowset.specs.Members.{is_number, contains}
 use Rattle.rows.specs.declared.row.Row.{Row}
 use Rattle.model.specs.Sheets.{Lower}
-use Rattle.rows.specs.Columns.{fits, columns, preds_of, row_at, Positive}
+use Rattle.rows.specs.Columns.{fits, columns, preds_of, steps_of, row_at, Positive}
 use Rattle.rows.specs.Followers.{HaveFollowers}
 use Rattle.rows.specs.States.{set_at}
-use Rattle.rows.proofs.Columns.{row_past, columns_added, rolled_added, preds_grown, states_grown, lower_added, positive_added}
+use Rattle.rows.proofs.Columns.{row_past, columns_added, rolled_added, preds_grown, states_grown, steps_grown, lower_added, positive_added}
 use Rattle.values.specs.Numbers.{same_state}
 use Rattle.values.specs.declared.RowState.TheVariants.{Absent, Running}
 use Rattle.rows.proofs.Followers.{followers_added, told, tell}
+use Rattle.rows.proofs.Highest.{highest_added}
 use Rattle.rows.proofs.States.{none_there, of_state, put_back}
 use Rattle.rows.proofs.table.RowTable.push.Goals as goal
 
@@ -100,6 +101,10 @@ invariant_of-self c =
             (contains (of_state s.sets.states st) j)) c.len-row.ensures)
             (none_there rows (length rows + 1) s.sets.states
             (sym (ap (λ r. same_state r.state Absent) (row_past rows (length rows + 1) (inr (omega arith))))) (told s.told).states);
+        highest = highest_added rows _ c.args.step f.place longer
+            (ap {B = ℕ → ℕ} steps_of p.items ∙ steps_grown rows c.args.step c.first_eight.result fs c.args.entry e)
+            c.highest_of_others-highest.result _ c.highest_of_others-highest.ensures
+            (λ k. c.insert.ensures k ∙ ap (λ n. contains c.highest_of_others-highest.result k || (eqb k (n + 1) && is_number k)) c.len-row.ensures);
       });
     }
 

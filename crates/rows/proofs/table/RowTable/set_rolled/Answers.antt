@@ -2,7 +2,7 @@
 use Rattle.std.proofs.Common.{◌-◌, sym, ◌∙◌, subst, length-set}
 use Rattle.model.specs.Sheets.{Lower}
 use Rattle.rows.specs.Columns.{row_at, Positive}
-use Rattle.rows.proofs.Columns.{row_inside, columns_rolled, preds_rolled, rolled_written, states_rolled}
+use Rattle.rows.proofs.Columns.{row_inside, columns_rolled, preds_rolled, steps_rolled, rolled_written, states_rolled}
 use Rattle.rows.proofs.Falls.{live_rolled}
 use Rattle.rows.proofs.Followers.{told, told_kept}
 use Rattle.rows.proofs.Searches.{live_within}
@@ -17,13 +17,14 @@ invariant_of-self c =
     let w = live_within rows k (sym c.if-is_live.ensures) in
     let is = row_inside rows k _ w.0 w.1 c.index_mut.ensures.value in
     let preds = sym (preds_rolled rows k _ c.args.number w.0 w.1 is) in
+    let steps = sym (steps_rolled rows k _ c.args.number w.0 w.1 is) in
     let states = kept_states rows _ s.sets.states (states_rolled rows k _ c.args.number w.0 w.1 is) (told s.told).states in
     record {
       lower = subst Lower preds s.lower;
       positive = subst Positive preds s.positive;
       few = s.few;
       reserved = s.reserved;
-      told = told_kept s.sets _ rows _ preds (length-set rows (k - 1) _) states s.told;
+      told = told_kept s.sets _ rows _ preds steps (length-set rows (k - 1) _) states s.told;
     }
 
 pub returns-then-is_live : goal.returns-then-is_live
