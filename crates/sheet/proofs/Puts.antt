@@ -1,5 +1,5 @@
 -- Lists put into a table one after the other. Assumes nothing.
-use Rattle.std.proofs.Common.{◌≡◌, ℕ, zero, suc, ◌+◌, ◌*◌, ◌<◌, ◌≤◌, Bool, true, false, List, [], ◌∷◌, ◌++◌, length, set, map, drop, refl, sym, ap, ◌∙◌, ap₂, inl, inr, add-one, add-zero, zero-add, arith, length-append}
+use Rattle.std.proofs.Common.{◌≡◌, ℕ, zero, suc, ◌+◌, ◌*◌, ◌<◌, ◌≤◌, Bool, true, false, cond, List, [], ◌∷◌, ◌++◌, length, set, map, drop, refl, sym, subst, ap, ◌∙◌, ap₂, inl, inr, add-one, add-zero, zero-add, arith, length-append}
 use Rattle.std.proofs.Math.Seq.{sets}
 use Rattle.std.proofs.lemmas.Bool.{cases_eq}
 use Rattle.std.proofs.lemmas.List.{append-nil, map-append}
@@ -7,6 +7,7 @@ use Rattle.std.proofs.lemmas.List.Edits.{sets-eq}
 use Rattle.model.specs.Run.{over}
 use Rattle.model.specs.Search.{each_below, all_below}
 use Rattle.sheet.specs.Listings.{put_all, Puts, only_if}
+use Rattle.sheet.proofs.Members.{IsNext, NoneAbove, to_next, to_end}
 
 -- ── one list after another ──
 
@@ -24,11 +25,11 @@ module _ {X : Type 0} {a b c : ℕ} {t u v : List X} where
   }
 
   -- what one number more gives
-  pub puts_each : (f : ℕ → List X) (n : ℕ) → Puts (each_below n f) a t b u → Puts (f n) b u c v
+  puts_each : (f : ℕ → List X) (n : ℕ) → Puts (each_below n f) a t b u → Puts (f n) b u c v
       → Puts (each_below (n + 1) f) a t c v
   puts_each f n p q = rw add-one (puts_then (each_below n f) (f n) p q)
 
-pub puts_none : {X : Type 0} {a : ℕ} {t : List X} → Puts [] a t a t
+puts_none : {X : Type 0} {a : ℕ} {t : List X} → Puts [] a t a t
 puts_none {a = a} = record { place = sym (add-zero a); written = refl }
 
 -- ── a list that the table has room for ──
@@ -37,13 +38,17 @@ put_sets : {X : Type 0} (xs : List X) (at : ℕ) (t : List X) → put_all xs at 
 put_sets [] at t = refl
 put_sets (x ∷ xs) at t = rw add-one (put_sets xs (suc at) (set t at x))
 
+-- a list that is put from the first place on is counted
+pub count_is : {X : Type 0} {xs t : List X} {n : ℕ} {u : List X} → Puts xs 0 t n u → n ≡ length xs
+count_is {xs = xs} p = p.place ∙ zero-add (length xs)
+
 pub puts_over : {X : Type 0} (xs t : List X) {n : ℕ} {u : List X} → length xs ≤ length t → Puts xs 0 t n u → u ≡ over xs t
 puts_over xs t room p =
     p.written ∙ put_sets xs 0 t ∙ sets-eq xs t 0 (omega arith) ∙ ap (λ n. xs ++ drop n t) (zero-add (length xs))
 
 -- ── what numbers give ──
 
-pub length_each : {X : Type 0} (n m : ℕ) (f : ℕ → List X) → ((k : ℕ) → length (f k) ≤ m) → length (each_below n f) ≤ n * m
+length_each : {X : Type 0} (n m : ℕ) (f : ℕ → List X) → ((k : ℕ) → length (f k) ≤ m) → length (each_below n f) ≤ n * m
 length_each zero m f few = omega arith
 length_each (suc n) m f few = omega (arith, length-append (each_below n f) (f n), few n, length_each n m f few)
 
@@ -70,3 +75,38 @@ map_each {X} g p (suc n) = map-append g (all_below n p) _ ∙ ap₂ ◌++◌ (ma
     one : (b : Bool) → map g (only_if b n) ≡ only_if b (g n)
     one true = refl
     one false = refl
+
+-- ── what the members of a set give ──
+
+module _ {X : Type 0} (p : ℕ → Bool) (h : ℕ → List X) where
+  -- what a number gives
+  abbrev pub given : ℕ → List X
+  given k = cond (p k) (h k) []
+
+  given_none : (k : ℕ) → p k ≡ false → given k ≡ []
+  given_none k out = ap (λ b. cond b (h k) []) out
+
+  -- no more than each member does
+  pub length_given : (m n : ℕ) → ((k : ℕ) → length (h k) ≤ m) → length (each_below n given) ≤ n * m
+  length_given m n few = length_each n m given (λ k. at_most (p k) k)
+    where
+      at_most : (b : Bool) (k : ℕ) → length (cond b (h k) []) ≤ m
+      at_most true k = few k
+      at_most false k = omega arith
+
+  still : (k : ℕ) → p k ≡ false → each_below (suc k) given ≡ each_below k given
+  still k out = ap (λ xs. each_below k given ++ xs) (given_none k out) ∙ append-nil (each_below k given)
+
+  module _ {a last b : ℕ} {t u : List X} (so_far : Puts (each_below (last + 1) given) a t b u) where
+    -- with the next member
+    pub puts_next : {c k : ℕ} {v : List X} → IsNext p last k → Puts (h k) b u c v
+        → Puts (each_below (k + 1) given) a t c v
+    puts_next {c} {k} {v} next one =
+        puts_each given k
+        (subst (λ xs. Puts xs a t b u) (sym (to_next (λ n. each_below n given) p still next)) so_far)
+        (subst (λ m. Puts (cond m (h k) []) b u c v) (sym next.1) one)
+
+    -- where there is none
+    pub puts_end : (n : ℕ) → last < n → NoneAbove p last → Puts (each_below n given) a t b u
+    puts_end n inside up =
+        subst (λ xs. Puts xs a t b u) (sym (to_end (λ n. each_below n given) p still n inside up)) so_far

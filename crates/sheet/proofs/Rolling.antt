@@ -1,5 +1,5 @@
 -- A rollback: which rows the host can drop, and the sheet afterwards. Assumes nothing.
-use Rattle.std.proofs.Common.{◌≡◌, ℕ, ◌+◌, ◌<◌, Bool, true, false, cond, ◌&&◌, ◌||◌, None, ◌∙◌, ap₂, arith}
+use Rattle.std.proofs.Common.{◌≡◌, ℕ, ◌+◌, ◌<◌, Bool, true, false, cond, ◌&&◌, ◌||◌, None, ap, ◌∙◌, ap₂, arith}
 use Rattle.std.proofs.lemmas.Bool.Decides.{nat_tests}
 use Rattle.values.specs.Checks.{first_fault}
 use Rattle.values.specs.Numbers.{same_host_state}
@@ -7,8 +7,9 @@ use Rattle.values.specs.declared.Cause.TheVariants.{ShutHost, OtherState}
 use Rattle.values.specs.declared.HostState.TheVariants.{Open}
 use Rattle.values.specs.declared.Layer.TheVariants.{Host as OfHost}
 use Rattle.values.specs.declared.Mode.{Mode}
+use Rattle.values.specs.declared.Mode.TheVariants.{Complete, Partial}
 use Rattle.values.specs.declared.Phase.TheVariants.{Undoing}
-use Rattle.values.specs.declared.RowState.TheVariants.{Running}
+use Rattle.values.specs.declared.RowState.TheVariants.{Running, Committed}
 use Rattle.host.specs.Keys.{key_of, is_row}
 use Rattle.host.specs.View.{View, move_checks}
 use Rattle.model.specs.Calls.{lowest_row}
@@ -16,6 +17,10 @@ use Rattle.model.specs.Rollback.{fallen, strikes}
 use Rattle.model.specs.Rows.{Rows, in_state, idle, with_states}
 use Rattle.model.specs.Sheet.{aborted}
 use Rattle.model.proofs.Basics.{passes, bad_at_none, first_below_none}
+use Rattle.model.specs.Chart.{Chart}
+use Rattle.rowset.specs.declared.RowSet.{RowSet}
+use Rattle.rowset.specs.Members.{contains}
+use Rattle.rows.specs.Marking.{HasStruck}
 use Rattle.rows.specs.declared.table.RowTable.{RowTable}
 use Rattle.rows.specs.Tables.{rows_of, rolled_of}
 use Rattle.rows.proofs.Columns.{known_within}
@@ -43,18 +48,28 @@ droppable x v m none k runs =
     (bad_at_none (lowest_row r (not_open r v)) OtherState OfHost ps.1.1.1.0) k low in
     drops v k (let few = x.table.few in grind (arith, nat_tests)) (grind arith) (grind arith)
 
--- the sheet once its rows fell, where the marks are those of the abort
-pub rolled_back : (x : Code) (t : RowTable) (m : Mode) (struck : ℕ → Bool)
-    → rows_of t ≡ with_states (rows_of x.table) (λ k. fallen ((rows_of x.table).state k) (struck k) (idle (chart_of x) (rows_of x.table) k))
-    → rolled_of t ≡ (λ k. cond (in_state (rows_of x.table) Running k || struck k) (x.rollback + 1) (rolled_of x.table k))
-    → ((k : ℕ) → struck k ≡ strikes (chart_of x) (rows_of x.table) m k)
+-- only committed rows are struck
+strikes_committed : (c : Chart) (r : Rows) (m : Mode) (k : ℕ) → (in_state r Committed k && strikes c r m k) ≡ strikes c r m k
+strikes_committed c r Complete k = grind arith
+strikes_committed c r (Partial f) k = grind arith
+
+-- the sheet once its rows fell, where a set has the rows that the abort strikes
+pub rolled_back : (x : Code) (t : RowTable) (m : Mode) (set : RowSet)
+    → rows_of t ≡ with_states (rows_of x.table)
+    (λ k. fallen ((rows_of x.table).state k) (in_state (rows_of x.table) Committed k && contains set k) (idle (chart_of x) (rows_of x.table) k))
+    → rolled_of t ≡ (λ k. cond (in_state (rows_of x.table) Running k || (in_state (rows_of x.table) Committed k && contains set k))
+    (x.rollback + 1) (rolled_of x.table k))
+    → HasStruck (chart_of x) (rows_of x.table) m set
     → sheet_from t Undoing (x.rollback + 1) x.serial m ≡ aborted (chart_of x) (sheet_of x) m
-rolled_back x t m struck rows rolled marks =
+rolled_back x t m set rows rolled has =
     let r = rows_of x.table in
-    let fell : rows_of t ≡ with_states r (λ k. fallen (r.state k) (strikes (chart_of x) r m k) (idle (chart_of x) r k)) =
-    rows ∙ (λ i. with_states r (λ k. fallen (r.state k) (marks k i) (idle (chart_of x) r k))) in
-    let numbers : rolled_of t ≡ (λ k. cond (in_state r Running k || strikes (chart_of x) r m k) (x.rollback + 1) (rolled_of x.table k)) =
-    rolled ∙ (λ i k. cond (in_state r Running k || marks k i) (x.rollback + 1) (rolled_of x.table k)) in
+    let strike : ℕ → Bool = strikes (chart_of x) r m in
+    let struck : (k : ℕ) → (in_state r Committed k && contains set k) ≡ strike k =
+    λ k. ap (λ b. in_state r Committed k && b) (has k) ∙ strikes_committed (chart_of x) r m k in
+    let fell : rows_of t ≡ with_states r (λ k. fallen (r.state k) (strike k) (idle (chart_of x) r k)) =
+    rows ∙ (λ i. with_states r (λ k. fallen (r.state k) (struck k i) (idle (chart_of x) r k))) in
+    let numbers : rolled_of t ≡ (λ k. cond (in_state r Running k || strike k) (x.rollback + 1) (rolled_of x.table k)) =
+    rolled ∙ (λ i k. cond (in_state r Running k || struck k i) (x.rollback + 1) (rolled_of x.table k)) in
     ap₂ (λ (y : Rows) (z : ℕ → ℕ). record {
       rows = y;
       rolled = z;

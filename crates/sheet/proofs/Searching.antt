@@ -1,5 +1,5 @@
--- Searches among the places of a list. Assumes nothing.
-use Rattle.std.proofs.Common.{◌≡◌, ℕ, zero, suc, ◌≤◌, Bool, true, false, ◌||◌, List, length, get_or, take, Option, refl, ap, ◌∙◌, add-one, arith}
+-- Searches among numbers, and among the places of a list. Assumes nothing.
+use Rattle.std.proofs.Common.{◌≡◌, ℕ, zero, suc, ◌<◌, ◌≤◌, Bool, true, false, ◌||◌, List, length, get_or, take, Option, refl, ap, ap₂, ◌∙◌, add-one, arith}
 use denote.Param.Members.{Mut}
 use denote.Ref.{Bor}
 use Rattle.std.specs.declared.ops.Range.{Range}
@@ -28,3 +28,9 @@ pub any_take : {X : Type 0} (p : X → Bool) (xs : List X) (n : ℕ) (d : X) →
 any_take p xs zero d h = refl
 any_take p xs (suc n) d h =
     rw add-one at (list_any_more p xs n d (omega arith)) ∙ ap (λ b. b || p (get_or xs n d)) (any_take p xs n d (omega arith))
+
+-- two tests that agree below a number
+pub any_below_same : (n : ℕ) (p q : ℕ → Bool) → ((k : ℕ) → k < n → p k ≡ q k) → any_below n p ≡ any_below n q
+any_below_same zero p q same = refl
+any_below_same (suc n) p q same =
+    ap₂ ◌||◌ (any_below_same n p q (λ k l. same k (omega arith))) (same n (omega arith))

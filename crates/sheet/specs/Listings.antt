@@ -6,7 +6,6 @@ use Rattle.values.specs.declared.Cause.TheVariants.{WrongPhase}
 use Rattle.values.specs.declared.Fault.{Fault}
 use Rattle.values.specs.declared.Layer.TheVariants.{Sheet as OfSheet}
 use Rattle.values.specs.declared.Phase.TheVariants.{Forward}
-use Rattle.values.specs.declared.RowArrow.{RowArrow}
 use Rattle.model.specs.Chart.{Chart}
 use Rattle.model.specs.Rollback.{behind, linked}
 use Rattle.model.specs.Rows.{Rows}
@@ -34,9 +33,13 @@ HasGraph s set = (k : ℕ) → contains set k ≡ in_graph s k
 abbrev pub HasBehind : Chart → Rows → ℕ → RowSet → Type 0
 HasBehind c r f set = (k : ℕ) → contains set k ≡ (is_number k && behind c r f k)
 
+-- the members of a set as a list, rising
+unfoldable pub members : RowSet → List ℕ
+members set = all_below 257 (contains set)
+
 -- restart points as a list, rising
 abbrev pub listed : Points → List ℕ
-listed p = cond p.start (0 ∷ []) [] ++ all_below 257 (contains p.stops)
+listed p = cond p.start (0 ∷ []) [] ++ members p.stops
 
 -- an element, if it is wanted
 abbrev pub only_if : {X : Type 0} → Bool → X → List X

@@ -18,7 +18,7 @@ ghost use Rattle.sheet.specs.SheetOf.{sheet_of, chart_of};
 
 use super::Sheet;
 use crate::memory::wants_memory;
-use crate::tables::put_if;
+use crate::tables::{put, put_if};
 use graph::marks::Marks;
 use graph::scratch::Scratch;
 use rowset::RowSet;
@@ -28,7 +28,7 @@ use values::{Cause, Fault, Layer, Mode, Phase, RowArrow, RowState};
 // it goes, so with an empty one the same functions count.
 
 // Where the competition may go on: at the start, and at the savepoints that stopped the way back.
-#[derive(Drop)]
+#[derive(Clone, Copy, Drop)]
 struct Points {
     start: bool,
     stops: RowSet,
@@ -36,13 +36,13 @@ struct Points {
 
 impl Points {
     // Puts them, rising; the start has number 0.
-    fn put(&self, table: &mut [u16]) -> usize
-        ensures { Puts (listed self.now) 0 table.old result table.new }
+    fn put(self, table: &mut [u16]) -> usize
+        ensures { Puts (listed self) 0 table.old result table.new }
     {
         let mut next = put_if(self.start, 0, table, 0);
         let mut last = 0;
         while let Some(row) = self.stops.next_above(last) {
-            next = put_if(true, row, table, next);
+            next = put(row, table, next);
             last = row;
         }
         next
@@ -51,9 +51,9 @@ impl Points {
 
 impl Sheet {
     // Those of some rows that the current rollback struck.
-    fn struck_now(&self, rows: &RowSet) -> RowSet
+    fn struck_now(&self, rows: RowSet) -> RowSet
         ensures { (k : ℕ) → contains result k
-            ≡ (contains rows.now k && (sheet_of self.now).rolled k == (sheet_of self.now).rollback) }
+            ≡ (contains rows k && (sheet_of self.now).rolled k == (sheet_of self.now).rollback) }
     {
         let mut now = RowSet::new();
         let mut last = 0;
@@ -70,7 +70,7 @@ impl Sheet {
     {
         let mut rows = self.table.rows_in(RowState::Due);
         rows.join(&self.table.rows_in(RowState::Undone));
-        self.struck_now(&rows)
+        self.struck_now(rows)
     }
 
     // Puts the arrows from a row of the graph, by the set of the rows that they lead to.
@@ -82,7 +82,7 @@ impl Sheet {
         let mut next = at;
         let mut last = 0;
         while let Some(row) = to.next_above(last) {
-            next = put_if(true, RowArrow { from, to: row }, table, next);
+            next = put(RowArrow { from, to: row }, table, next);
             last = row;
         }
         next
@@ -139,9 +139,9 @@ impl Sheet {
     }
 
     // Those of some rows that are savepoints.
-    fn savepoints(&self, rows: &RowSet) -> RowSet
+    fn savepoints(&self, rows: RowSet) -> RowSet
         ensures { (k : ℕ) → contains result k
-            ≡ (is_savepoint (chart_of self.now) (sheet_of self.now).rows k && contains rows.now k) }
+            ≡ (is_savepoint (chart_of self.now) (sheet_of self.now).rows k && contains rows k) }
     {
         let mut savepoints = RowSet::new();
         let mut last = 0;
@@ -159,7 +159,7 @@ impl Sheet {
     {
         let mut reached = self.table.predecessors_of(behind);
         reached.meet(&self.table.rows_in(RowState::Committed));
-        self.savepoints(&reached)
+        self.savepoints(reached)
     }
 
     // The failing row and its backward part.

@@ -1,4 +1,4 @@
-use Rattle.std.proofs.Common.{◌≡◌, ◌≤◌, ◌+◌}
+use Rattle.std.proofs.Common.{◌≡◌, ◌≤◌, ◌+◌, ◌-◌}
 use Rattle.values.specs.declared.RowState.TheVariants.{Running}
 use Rattle.model.specs.Calls.{dropped_below}
 use Rattle.model.specs.Rows.{in_state}
@@ -8,7 +8,11 @@ use Rattle.sheet.proofs.sheets.Sheet.drop_running.Given as goal
 abbrev pub invariant-loop-row : goal.invariant-loop-row
 invariant-loop-row g l =
     record {
-      dropped : g.X.Host.view l.host ≡ dropped_below (in_state (sheet_of l.self).rows Running) l.row (g.X.Host.view l.initial.host);
+      dropped : g.X.Host.view l.host
+          ≡ dropped_below (in_state (sheet_of l.self).rows Running) (l.last + 1) (g.X.Host.view l.initial.host);
       switches : g.X.Host.switches l.host ≡ g.X.Host.switches l.initial.host;
-      near : l.row ≤ l.row-end + 1;
+      within : l.last ≤ (sheet_of l.self).rows.count;
     }
+
+abbrev pub decreases-loop-row : goal.decreases-loop-row
+decreases-loop-row g l = 65536 - l.last

@@ -1,24 +1,37 @@
-use Rattle.std.proofs.Common.{◌≡◌, ◌+◌, false, sym, ◌∙◌, arith}
-use borrow.Author.Count.{below_more}
-use Rattle.model.proofs.Basics.{first_below_none}
-use Rattle.sheet.specs.SheetOf.{sheet_of}
+use Rattle.std.proofs.Common.{◌≡◌, ℕ, ◌+◌, ◌≤◌, true, Bool, sym, ◌∙◌, arith, rules, tests}
+use Rattle.std.proofs.lemmas.Bool.{and_parts}
+use Rattle.values.specs.declared.RowState.TheVariants.{Running}
+use Rattle.model.specs.Rows.{in_state}
 use Rattle.rows.proofs.Below.{first_none, first_is}
+use Rattle.rowset.specs.Members.{contains}
+use Rattle.sheet.specs.SheetOf.{sheet_of}
 use Rattle.sheet.specs.Calls.{not_open}
+use Rattle.sheet.proofs.Aborting.{runs_within}
+use Rattle.sheet.proofs.Members.{none_below, none_at_all}
 use Rattle.sheet.proofs.sheets.Sheet.lowest_not_open.Goals as goal
 
-pub returns-then-is_not_open : goal.returns-then-is_not_open
-returns-then-is_not_open g c =
+pub returns-then-ne : goal.returns-then-ne
+returns-then-ne g c =
     let r = (sheet_of c.args.self.now).rows in
-    let p = not_open r (g.X.Host.view c.args.host.now) in
-    let n = c.rows.row in
-    sym (first_is (r.count + 1) p n (omega (arith, c.len-row-end.ensures)) (sym c.if-is_not_open.ensures)
-    (first_below_none n p c.rows.invariant.below))
+    let v = g.X.Host.view c.args.host.now in
+    let p = not_open r v in
+    let n = c.in-Some.row in
+    let member : ℕ → Bool = contains c.rows_in-running.result in
+    let is : (k : ℕ) → member k ≡ in_state r Running k = c.rows_in-running.ensures in
+    let only : (k : ℕ) → p k ≡ true → member k ≡ true = λ k t. is k ∙ (and_parts (in_state r Running k) _ t).0 in
+    let running : in_state r Running n ≡ true = sym (is n) ∙ c.in-Some.ensures.1 in
+    let here : p n ≡ true = search (rules, tests) in
+    let inside : n ≤ r.count = runs_within c.args.self.now.table n running in
+    sym (first_is (r.count + 1) p n (omega arith) here
+    (none_below member p only c.in-Some.ensures c.rows.invariant.none))
 
-pub returns-else-is_not_open : goal.returns-else-is_not_open
-returns-else-is_not_open g c =
+pub returns-in_default : goal.returns-in_default
+returns-in_default g c =
     let r = (sheet_of c.args.self.now).rows in
-    let p = not_open r (g.X.Host.view c.args.host.now) in
-    let n = c.rows.row in
+    let v = g.X.Host.view c.args.host.now in
+    let p = not_open r v in
+    let member : ℕ → Bool = contains c.rows_in-running.result in
+    let is : (k : ℕ) → member k ≡ in_state r Running k = c.rows_in-running.ensures in
+    let only : (k : ℕ) → p k ≡ true → member k ≡ true = λ k t. is k ∙ (and_parts (in_state r Running k) _ t).0 in
     c.rows.invariant.found ∙ sym (first_none (r.count + 1) p
-    (λ k l. below_more (λ k. p k ≡ false) n (first_below_none n p c.rows.invariant.below) (sym c.if-is_not_open.ensures)
-    k (omega (arith, c.len-row-end.ensures))))
+    (λ k l. none_at_all member p only c.rows.invariant.none c.in_default.ensures k))

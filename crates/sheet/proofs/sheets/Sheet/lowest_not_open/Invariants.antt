@@ -1,9 +1,12 @@
-use Rattle.std.proofs.Common.{◌≡◌, None}
-use Rattle.model.specs.Search.{first_below}
+use Rattle.std.proofs.Common.{◌≡◌, None, ◌-◌}
 use Rattle.sheet.specs.SheetOf.{sheet_of}
 use Rattle.sheet.specs.Calls.{not_open}
+use Rattle.sheet.proofs.Members.{NoneTo}
 use Rattle.sheet.proofs.sheets.Sheet.lowest_not_open.Given as goal
 
 abbrev pub invariant-rows : goal.invariant-rows
 invariant-rows g l =
-    record { below : first_below l.row (not_open (sheet_of l.self).rows (g.X.Host.view l.host)) ≡ None; found : l.found ≡ None }
+    record { none : NoneTo (not_open (sheet_of l.self).rows (g.X.Host.view l.host)) l.last; found : l.found ≡ None }
+
+abbrev pub decreases-rows : goal.decreases-rows
+decreases-rows g l = 65536 - l.last

@@ -1,15 +1,39 @@
-use Rattle.std.proofs.Common.{arith}
-use Rattle.sheet.specs.Listings.{arrows_at}
+use Rattle.std.proofs.Common.{ℕ, ◌+◌, Bool, List, sym, subst, ◌∙◌, arith}
+use Rattle.values.specs.declared.RowArrow.{RowArrow}
+use Rattle.model.specs.Sheet.{arrows_from}
+use Rattle.rowset.specs.Members.{contains}
+use Rattle.sheet.specs.Listings.{Puts}
 use Rattle.sheet.specs.SheetOf.{sheet_of}
-use Rattle.sheet.proofs.Listing.{few_below}
-use Rattle.sheet.proofs.Puts.{puts_each}
+use Rattle.sheet.proofs.Listing.{graph_by, graph_within, few_below}
+use Rattle.sheet.proofs.Puts.{puts_next, puts_end}
 use Rattle.sheet.proofs.sheets.Sheet.put_arrows.Goals as goal
 
-pub put_arrows_at-next-requires-clause-room : goal.put_arrows_at-next-requires-clause-room
-put_arrows_at-next-requires-clause-room c =
+pub put_arrows_from-next-requires-clause-room : goal.put_arrows_from-next-requires-clause-room
+put_arrows_from-next-requires-clause-room c =
     let x = c.args.self.now in
-    omega (arith, x.table.few, x.table.rows.ok.0, c.len-row-end.ensures, c.loop-row.invariant.place, few_below x c.loop-row.row)
+    omega (
+      arith,
+      c.loop-row.invariant.puts.place,
+      c.loop-row.invariant.within,
+      few_below x (contains c.args.graph.now) (c.loop-row.last + 1),
+      x.table.few,
+      x.table.rows.ok.0,
+    )
 
 pub loop-row-preserved : goal.loop-row-preserved
 loop-row-preserved c =
-    puts_each (arrows_at (sheet_of c.args.self.now)) c.loop-row.row c.loop-row.invariant c.put_arrows_at-next.ensures
+    let x = c.args.self.now in
+    let n = c.in-Some.row in
+    record {
+      puts = puts_next (contains c.args.graph.now) (arrows_from (sheet_of x)) c.loop-row.invariant.puts c.in-Some.ensures
+          c.put_arrows_from-next.ensures;
+      within = graph_within x n (sym (c.requires.graph n) ∙ c.in-Some.ensures.1);
+    }
+
+pub returns : goal.returns
+returns c =
+    let x = c.args.self.now in
+    let p : ℕ → Bool = contains c.args.graph.now in
+    let All : List RowArrow → Type 0 = λ xs. Puts xs 0 c.args.table.now c.loop-row.next c.loop-row.table in
+    subst All (graph_by x p c.requires.graph)
+    (puts_end p (arrows_from (sheet_of x)) c.loop-row.invariant.puts ((sheet_of x).rows.count + 1) (omega arith) c.in_default.ensures)

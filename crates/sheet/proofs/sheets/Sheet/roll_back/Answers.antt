@@ -1,11 +1,7 @@
--- The marks are those of the abort, the host drops what runs, and the rows fall.
-use Rattle.std.proofs.Common.{ℕ, ◌≤◌, Bool, ◌&&◌, sym, subst, rules, arith}
+-- The host drops what runs, and the rows fall that the abort strikes.
+use Rattle.std.proofs.Common.{◌≤◌, sym, subst, rules, arith}
 use Rattle.std.proofs.Math.Bridge.{le_prop}
 use mathlib.Core.Logic.{∥∥₁_elim, ∥∥₁_map}
-use Rattle.values.specs.declared.RowState.TheVariants.{Committed}
-use Rattle.graph.specs.Column.{marked}
-use Rattle.graph.specs.Held.{held}
-use Rattle.model.specs.Rows.{in_state}
 use Rattle.model.specs.Sheets.{Kept}
 use Rattle.model.proofs.Kept.{on_abort}
 use Rattle.sheet.specs.SheetOf.{sheet_of, chart_of}
@@ -24,10 +20,9 @@ overflow_add-rollback g c =
 pub invariant_of-self-2 : goal.invariant_of-self-2
 invariant_of-self-2 g c =
     let x = c.args.self.now in
-    let struck : ℕ → Bool = λ k. in_state (sheet_of x).rows Committed k && marked (held c.mark_struck.new.scratch.marks.now) k in
-    let marks = simp (c.unwrap.ensures, c.steps.ensures) at c.mark_struck.ensures.answer in
+    let has = simp (c.unwrap-struck.ensures, c.steps.ensures) at c.struck.ensures.answer in
     let fell = simp c.steps-2.ensures at c.fall.ensures in
-    let is = rolled_back x c.fall.new.self c.args.mode struck fell.rows fell.rolled marks in
+    let is = rolled_back x c.fall.new.self c.args.mode c.unwrap-struck.result fell.rows fell.rolled has in
     record {
       kept = ∥∥₁_map x.kept
           (λ kept. subst Kept (sym is) (on_abort (chart_of x) (sheet_of x) (g.X.Host.view c.args.host.now) kept c.args.mode 257 256 c.requires.may));
@@ -36,7 +31,6 @@ invariant_of-self-2 g c =
 pub returns-clause-sheet : goal.returns-clause-sheet
 returns-clause-sheet g c =
     let x = c.args.self.now in
-    let struck : ℕ → Bool = λ k. in_state (sheet_of x).rows Committed k && marked (held c.mark_struck.new.scratch.marks.now) k in
-    let marks = simp (c.unwrap.ensures, c.steps.ensures) at c.mark_struck.ensures.answer in
+    let has = simp (c.unwrap-struck.ensures, c.steps.ensures) at c.struck.ensures.answer in
     let fell = simp c.steps-2.ensures at c.fall.ensures in
-    rolled_back x c.fall.new.self c.args.mode struck fell.rows fell.rolled marks
+    rolled_back x c.fall.new.self c.args.mode c.unwrap-struck.result fell.rows fell.rolled has
