@@ -1,5 +1,5 @@
 -- What a reply shows of each step, set in its bytes one after another, and the whole reply. Assumes nothing.
-use Rattle.std.proofs.Common.{◌≡◌, ℕ, zero, suc, ◌+◌, ◌-◌, ◌<◌, ◌≤◌, ◌≢◌, ◌*◌, ◌^◌, true, false, cond, ◌&&◌, ltb, List, [], ◌∷◌, ◌++◌, length, get_or, take, drop, replicate, set, Some, None, Ok, Err, subst, sym, refl, ap, ◌∙◌, ap₂, inl, inr, add-one, arith}
+use Rattle.std.proofs.Common.{◌≡◌, ℕ, zero, suc, ◌+◌, ◌-◌, ◌<◌, ◌≤◌, ◌≢◌, ◌*◌, ◌^◌, cond, ltb, List, [], ◌∷◌, ◌++◌, length, get_or, take, drop, replicate, set, Some, None, Option, MatchOption, Ok, Err, sym, refl, ap, ◌∙◌, ap₂, inl, inr, arith}
 use Rattle.std.proofs.lemmas.Bool.{cases_eq}
 use Rattle.std.proofs.lemmas.Bool.Decides.{nat_tests}
 use Rattle.std.proofs.lemmas.List.{set_at, set-append_left, take-append-drop, drop_all, drop-drop, take_rest, length-drop, append-nil}
@@ -7,16 +7,20 @@ use Rattle.values.specs.Checks.{answer, after}
 use Rattle.values.specs.Numbers.{phase_number, row_state_number}
 use Rattle.values.specs.declared.Cause.TheVariants.{ShortMemory}
 use Rattle.values.specs.declared.Fault.{Fault}
+use Rattle.values.specs.declared.RowState.{RowState}
 use Rattle.values.specs.declared.Layer.TheVariants.{Sheet as OfSheet}
 use Rattle.process.specs.Bits.{total, pack, unpack, Fit}
 use Rattle.process.proofs.Packing.{repacked}
 use Rattle.model.specs.Calls.{reply_fault}
-use Rattle.model.specs.Chart.{step_at}
-use Rattle.model.specs.Report.{shown, reply_widths, reply_bytes, reply_of}
+use Rattle.model.specs.Chart.{Chart}
+use Rattle.model.specs.Report.{highest_below, shown, reply_widths, reply_bytes, reply_of}
+use Rattle.model.specs.Rows.{Rows}
 use Rattle.model.specs.Run.{over, written_at}
+use Rattle.model.specs.Sheet.{Sheet as Model}
+use Rattle.model.specs.Summaries.{highest_state, standing}
 use Rattle.model.proofs.Replying.{column, length_column}
 use Rattle.sheet.specs.declared.sheets.Sheet.{Sheet}
-use Rattle.sheet.specs.Fields.{SetsStep, Shows, ShowsNow, StandsFirst, fields_with, shown_below}
+use Rattle.sheet.specs.Fields.{SetsStep, Shows, ShowsNow, StandsFirst, fields_with}
 use Rattle.sheet.specs.Reports.{Replies}
 use Rattle.sheet.specs.SheetOf.{sheet_of, chart_of}
 
@@ -37,6 +41,18 @@ column_set (suc n) f g i v l at other =
       | inr e ↦ set-append_left (column n f) (f n ∷ []) i v (omega (arith, length_column n f))
           ∙ ap₂ (λ xs x. xs ++ x ∷ []) (column_set n f g i v (omega arith) at other) (other n (omega arith))
     ]
+
+-- ── what is shown of a step ──
+
+highest_number : (r : Rows) (k n : ℕ) → highest_below r.step r.state k n ≡ row_state_number (highest_state r k n)
+highest_number r k zero = refl
+highest_number r k (suc n) = grind (arith, highest_number r k n)
+
+-- 7 for a private step, else the number of the state of its highest row
+pub shown_by : (c : Chart) (s : Model) (k v : ℕ) (o : Option RowState) → o ≡ standing c s.rows k
+    → MatchOption o (v ≡ 7) (λ st. v ≡ row_state_number st) → v ≡ shown c s k
+shown_by c s k v None is m = grind (arith, m)
+shown_by c s k v (Some st) is m = grind (arith, highest_number s.rows k (s.rows.count + 1), m)
 
 -- ── the fields of the steps ──
 
@@ -63,46 +79,23 @@ shows_step x f g k v before after low high at other shows s =
     ∙ ap (λ xs. xs ++ 0 ∷ []) (column_set 64 (λ j. f (j + 1)) (λ j. g (j + 1)) i v (omega arith) (ap g step ∙ at)
     (λ j n. other (j + 1) (omega arith))))
 
--- ── private steps ──
+-- what is shown once the fields of the steps below n are set
+abbrev pub shown_to : Sheet → ℕ → ℕ → ℕ
+shown_to x n k = cond (ltb k n) (shown (chart_of x) (sheet_of x) k) 0
 
--- what is shown once the private steps below n are written
-abbrev pub hidden_below : Sheet → ℕ → ℕ → ℕ
-hidden_below x n k = cond (ltb k n && (step_at (chart_of x) k).private) 7 0
+pub none_shown : (x : Sheet) (bytes : List ℕ) → Shows x (λ _. 0) bytes → Shows x (shown_to x 1) bytes
+none_shown x bytes = shows_same x (λ _. 0) (shown_to x 1) bytes (λ k l h. grind (arith, nat_tests))
 
-pub none_hidden : (x : Sheet) (bytes : List ℕ) → Shows x (λ _. 0) bytes → Shows x (hidden_below x 1) bytes
-none_hidden x bytes = shows_same x (λ _. 0) (hidden_below x 1) bytes (λ k l h. grind (arith, nat_tests))
-
-pub all_hidden : (x : Sheet) (n : ℕ) (bytes : List ℕ) → 64 < n → Shows x (hidden_below x n) bytes → Shows x (shown_below x 1) bytes
-all_hidden x n bytes end = shows_same x (hidden_below x n) (shown_below x 1) bytes (λ k l h. grind (arith, nat_tests))
-
-pub one_hidden : (x : Sheet) (n : ℕ) (before after : List ℕ) → 1 ≤ n → n ≤ 64 → true ≡ (step_at (chart_of x) n).private
-    → Shows x (hidden_below x n) before → SetsStep n 7 before after → Shows x (hidden_below x (n + 1)) after
-one_hidden x n before after low high hides =
-    shows_step x (hidden_below x n) (hidden_below x (n + 1)) n 7 before after low high
+pub one_shown : (x : Sheet) (n v : ℕ) (before after : List ℕ) → 1 ≤ n → n ≤ 64 → v ≡ shown (chart_of x) (sheet_of x) n
+    → Shows x (shown_to x n) before → SetsStep n v before after → Shows x (shown_to x (n + 1)) after
+one_shown x n v before after low high is =
+    shows_step x (shown_to x n) (shown_to x (n + 1)) n v before after low high
     (grind (arith, nat_tests)) (λ j ne. grind (arith, nat_tests))
 
-pub one_public : (x : Sheet) (n : ℕ) (bytes : List ℕ) → false ≡ (step_at (chart_of x) n).private
-    → Shows x (hidden_below x n) bytes → Shows x (hidden_below x (n + 1)) bytes
-one_public x n bytes public = shows_same x (hidden_below x n) (hidden_below x (n + 1)) bytes (λ k l h. grind (arith, nat_tests))
-
--- ── rows ──
-
-pub row_shown : (x : Sheet) (n k v : ℕ) (before after : List ℕ) → 1 ≤ k → k ≤ 64 → k ≡ (sheet_of x).rows.step n
-    → false ≡ (step_at (chart_of x) k).private → v ≡ row_state_number ((sheet_of x).rows.state n)
-    → Shows x (shown_below x n) before → SetsStep k v before after → Shows x (shown_below x (n + 1)) after
-row_shown x n k v before after low high of public is =
-    shows_step x (shown_below x n) (shown_below x (n + 1)) k v before after low high
-    (rw add-one (grind (arith, nat_tests))) (λ j ne. rw add-one (grind (arith, nat_tests)))
-
-pub row_hidden : (x : Sheet) (n k : ℕ) (bytes : List ℕ) → k ≡ (sheet_of x).rows.step n
-    → (1 ≤ k → k ≤ 64 → true ≡ (step_at (chart_of x) k).private)
-    → Shows x (shown_below x n) bytes → Shows x (shown_below x (n + 1)) bytes
-row_hidden x n k bytes of hides =
-    shows_same x (shown_below x n) (shown_below x (n + 1)) bytes (λ j l h. rw add-one (grind (arith, nat_tests)))
-
-pub rows_shown : (x : Sheet) (n : ℕ) (bytes : List ℕ) → n ≡ (sheet_of x).rows.count + 1 → Shows x (shown_below x n) bytes
+pub all_shown : (x : Sheet) (n : ℕ) (bytes : List ℕ) → 64 < n → Shows x (shown_to x n) bytes
     → Shows x (shown (chart_of x) (sheet_of x)) bytes
-rows_shown x n bytes all = subst (λ m. Shows x (shown_below x m) bytes) all
+all_shown x n bytes end =
+    shows_same x (shown_to x n) (shown (chart_of x) (sheet_of x)) bytes (λ k l h. grind (arith, nat_tests))
 
 -- ── the whole reply ──
 

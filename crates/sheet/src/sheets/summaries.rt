@@ -61,17 +61,16 @@ impl Sheet {
     fn highest_state(&self, step: u16) -> RowState
         ensures { result ≡ highest_state (sheet_of self.now).rows step ((sheet_of self.now).rows.count + 1) }
     {
-        let mut highest = RowState::Absent;
-        for row in 0..self.table.len() + 1 {
+        for row in (1..self.table.len() + 1).rev() {
             if self.table.step(row) == step {
-                highest = self.table.state(row);
+                return self.table.state(row);
             }
         }
-        highest
+        RowState::Absent
     }
 
     // How a step stands.
-    fn standing(&self, step: u16) -> Option<RowState>
+    pub(super) fn standing(&self, step: u16) -> Option<RowState>
         ensures { result ≡ standing (chart_of self.now) (sheet_of self.now).rows step }
     {
         if step_at(self.process.steps(), step).private {
