@@ -40,7 +40,8 @@ still_droppable runs n v x is may =
     ∙ ap₂ (λ shut st. checks_by shut st n) (same_shut runs n v) (still_there runs n v) ∙ may
 
 -- one row more, which runs and is dropped
-pub dropped_one : (runs : ℕ → Bool) (n : ℕ) (v x y : View) → first_fault (move_checks Open v (key_of n)) ≡ None → true ≡ runs n
+pub dropped_one : (runs : ℕ → Bool) (n : ℕ) (v x y : View)
+    → first_fault (move_checks Open v (key_of n)) ≡ None → true ≡ runs n
     → x ≡ dropped_below runs n v → y ≡ after (first_fault (move_checks Open x (key_of n))) x (moved Void x (key_of n))
     → y ≡ dropped_below runs (n + 1) v
 dropped_one runs n v x y may h was is = let drops = still_droppable runs n v x was may in rw add-one (grind arith)

@@ -25,7 +25,8 @@ abbrev short : Fault
 short = record { cause = ShortMemory; layer = OfSheet; place = 0 }
 
 too_many : (c : Chart) (s : Sheet) (column line arrow_room point_room : ℕ) → enough column line ≡ true → graph_check s ≡ None
-    → (arrow_room < length (graph_arrows s)) ⊎ ((length (graph_arrows s) ≤ arrow_room) × (point_room < length (points_of c s)))
+    → (arrow_room < length (graph_arrows s))
+    ⊎ ((length (graph_arrows s) ≤ arrow_room) × (point_room < length (points_of c s)))
     → listing_fault_in c s column line arrow_room point_room ≡ Some short
 too_many c s column line arrow_room point_room memory graph (inl arrows) = grind (arith, nat_tests)
 too_many c s column line arrow_room point_room memory graph (inr (arrows, points)) = grind (arith, nat_tests)
@@ -58,7 +59,8 @@ module _ {c : Chart} {s : Sheet} {column line n m : ℕ} {none arrows none' : Li
       let points_are = count_is point_count ∙ ap length is in
       let arrows_fit : length (graph_arrows s) ≤ length arrows = omega (arith, arrows_are) in
       let points_fit : length (points_of c s) ≤ length points = omega (arith, points_are) in
-      let free = no_fault c s column line (length arrows) (length points) memory (none_stands (graph_check s) graph) arrows_fit points_fit in
+      let checked = none_stands (graph_check s) graph in
+      let free = no_fault c s column line (length arrows) (length points) memory checked arrows_fit points_fit in
       record {
         answers = ap Ok (ap₂ (λ (x y : ℕ). (x, y)) arrows_are points_are)
             ∙ ap (λ o. answer o (length (graph_arrows s), length (points_of c s))) (sym free);

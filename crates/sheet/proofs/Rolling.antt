@@ -53,28 +53,34 @@ strikes_committed : (c : Chart) (r : Rows) (m : Mode) (k : ℕ) → (in_state r 
 strikes_committed c r Complete k = grind arith
 strikes_committed c r (Partial f) k = grind arith
 
--- the sheet once its rows fell, where a set has the rows that the abort strikes
-pub rolled_back : (x : Code) (t : RowTable) (m : Mode) (set : RowSet)
-    → rows_of t ≡ with_states (rows_of x.table)
-    (λ k. fallen ((rows_of x.table).state k) (in_state (rows_of x.table) Committed k && contains set k) (idle (chart_of x) (rows_of x.table) k))
-    → rolled_of t ≡ (λ k. cond (in_state (rows_of x.table) Running k || (in_state (rows_of x.table) Committed k && contains set k))
-    (x.rollback + 1) (rolled_of x.table k))
-    → HasStruck (chart_of x) (rows_of x.table) m set
-    → sheet_from t Undoing (x.rollback + 1) x.serial m ≡ aborted (chart_of x) (sheet_of x) m
-rolled_back x t m set rows rolled has =
-    let r = rows_of x.table in
-    let strike : ℕ → Bool = strikes (chart_of x) r m in
-    let struck : (k : ℕ) → (in_state r Committed k && contains set k) ≡ strike k =
-    λ k. ap (λ b. in_state r Committed k && b) (has k) ∙ strikes_committed (chart_of x) r m k in
-    let fell : rows_of t ≡ with_states r (λ k. fallen (r.state k) (strike k) (idle (chart_of x) r k)) =
-    rows ∙ (λ i. with_states r (λ k. fallen (r.state k) (struck k i) (idle (chart_of x) r k))) in
-    let numbers : rolled_of t ≡ (λ k. cond (in_state r Running k || strike k) (x.rollback + 1) (rolled_of x.table k)) =
-    rolled ∙ (λ i k. cond (in_state r Running k || struck k i) (x.rollback + 1) (rolled_of x.table k)) in
-    ap₂ (λ (y : Rows) (z : ℕ → ℕ). record {
-      rows = y;
-      rolled = z;
-      phase = Undoing;
-      rollback = x.rollback + 1;
-      serial = x.serial;
-      mode = m;
-    }) fell numbers
+module _ (x : Code) (m : Mode) (set : RowSet) where
+  abbrev r : Rows
+  r = rows_of x.table
+
+  abbrev strike : ℕ → Bool
+  strike = strikes (chart_of x) r m
+
+  -- the committed rows of a set
+  abbrev pub of_set : ℕ → Bool
+  of_set k = in_state r Committed k && contains set k
+
+  -- the sheet once its rows fell, where the set has the rows that the abort strikes
+  pub rolled_back : (t : RowTable) → rows_of t ≡ with_states r (λ k. fallen (r.state k) (of_set k) (idle (chart_of x) r k))
+      → rolled_of t ≡ (λ k. cond (in_state r Running k || of_set k) (x.rollback + 1) (rolled_of x.table k))
+      → HasStruck (chart_of x) r m set
+      → sheet_from t Undoing (x.rollback + 1) x.serial m ≡ aborted (chart_of x) (sheet_of x) m
+  rolled_back t rows rolled has =
+      let struck : (k : ℕ) → of_set k ≡ strike k =
+      λ k. ap (λ b. in_state r Committed k && b) (has k) ∙ strikes_committed (chart_of x) r m k in
+      let fell : rows_of t ≡ with_states r (λ k. fallen (r.state k) (strike k) (idle (chart_of x) r k)) =
+      rows ∙ (λ i. with_states r (λ k. fallen (r.state k) (struck k i) (idle (chart_of x) r k))) in
+      let numbers : rolled_of t ≡ (λ k. cond (in_state r Running k || strike k) (x.rollback + 1) (rolled_of x.table k)) =
+      rolled ∙ (λ i k. cond (in_state r Running k || struck k i) (x.rollback + 1) (rolled_of x.table k)) in
+      ap₂ (λ (y : Rows) (z : ℕ → ℕ). record {
+        rows = y;
+        rolled = z;
+        phase = Undoing;
+        rollback = x.rollback + 1;
+        serial = x.serial;
+        mode = m;
+      }) fell numbers

@@ -22,5 +22,6 @@ returns c =
     let r = (sheet_of c.args.self.now).rows in
     let p : ℕ → Bool = contains c.args.rows.now in
     let first : ℕ → Bool = λ k. eqb (r.step k) 1 in
-    sym (any_below_none (r.count + 1) (λ k. p k && first k)
-    (λ k l. none_at_all p (λ k. p k && first k) (λ k t. (and_parts (p k) (first k) t).0) c.loop-row.invariant c.in_default.ensures k))
+    let test : ℕ → Bool = λ k. p k && first k in
+    let none = none_at_all p test (λ k t. (and_parts (p k) (first k) t).0) c.loop-row.invariant c.in_default.ensures in
+    sym (any_below_none (r.count + 1) test (λ k l. none k))

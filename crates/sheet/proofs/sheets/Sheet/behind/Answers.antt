@@ -7,4 +7,5 @@ pub returns-clause-rows : goal.returns-clause-rows
 returns-clause-rows c =
     let x = c.args.self.now in
     let has = simp (c.unwrap-behind.ensures, c.steps-steps.ensures) at c.backward_rows.ensures.answer in
-    behind_by (chart_of x) (sheet_of x).rows c.args.f c.unwrap-behind.result c.insert.new.self (omega arith) has c.insert.ensures
+    behind_by (chart_of x) (sheet_of x).rows c.args.f c.unwrap-behind.result c.insert.new.self (omega arith)
+    has c.insert.ensures

@@ -34,6 +34,7 @@ pub returns : goal.returns
 returns c =
     let x = c.args.self.now in
     let p : ℕ → Bool = contains c.args.graph.now in
+    let n = (sheet_of x).rows.count + 1 in
     let All : List RowArrow → Type 0 = λ xs. Puts xs 0 c.args.table.now c.loop-row.next c.loop-row.table in
     subst All (graph_by x p c.requires.graph)
-    (puts_end p (arrows_from (sheet_of x)) c.loop-row.invariant.puts ((sheet_of x).rows.count + 1) (omega arith) c.in_default.ensures)
+    (puts_end p (arrows_from (sheet_of x)) c.loop-row.invariant.puts n (omega arith) c.in_default.ensures)

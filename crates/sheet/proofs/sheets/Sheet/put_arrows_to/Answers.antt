@@ -32,7 +32,8 @@ loop-row-preserved c =
     let n = c.in-Some.row in
     let there = (and_parts (in_graph (sheet_of x) n) _ (sym (c.requires.to n) ∙ c.in-Some.ensures.1)).0 in
     record {
-      puts = puts_next (contains c.args.to.now) (arrow_to x c.args.from) c.loop-row.invariant.puts c.in-Some.ensures c.put-next.ensures;
+      puts = puts_next (contains c.args.to.now) (arrow_to x c.args.from) c.loop-row.invariant.puts c.in-Some.ensures
+          c.put-next.ensures;
       within = graph_within x n there;
     }
 
@@ -40,6 +41,7 @@ pub returns : goal.returns
 returns c =
     let x = c.args.self.now in
     let p : ℕ → Bool = contains c.args.to.now in
+    let n = (sheet_of x).rows.count + 1 in
     let All : List RowArrow → Type 0 = λ xs. Puts xs c.args.at c.args.table.now c.loop-row.next c.loop-row.table in
     subst All (arrows_by x c.args.from p c.requires.to)
-    (puts_end p (arrow_to x c.args.from) c.loop-row.invariant.puts ((sheet_of x).rows.count + 1) (omega arith) c.in_default.ensures)
+    (puts_end p (arrow_to x c.args.from) c.loop-row.invariant.puts n (omega arith) c.in_default.ensures)

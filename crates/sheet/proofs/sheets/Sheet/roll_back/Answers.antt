@@ -22,10 +22,11 @@ invariant_of-self-2 g c =
     let x = c.args.self.now in
     let has = simp (c.unwrap-struck.ensures, c.steps.ensures) at c.struck.ensures.answer in
     let fell = simp c.steps-2.ensures at c.fall.ensures in
-    let is = rolled_back x c.fall.new.self c.args.mode c.unwrap-struck.result fell.rows fell.rolled has in
+    let is = rolled_back x c.args.mode c.unwrap-struck.result c.fall.new.self fell.rows fell.rolled has in
+    let v = g.X.Host.view c.args.host.now in
     record {
       kept = ∥∥₁_map x.kept
-          (λ kept. subst Kept (sym is) (on_abort (chart_of x) (sheet_of x) (g.X.Host.view c.args.host.now) kept c.args.mode 257 256 c.requires.may));
+          (λ kept. subst Kept (sym is) (on_abort (chart_of x) (sheet_of x) v kept c.args.mode 257 256 c.requires.may));
     }
 
 pub returns-clause-sheet : goal.returns-clause-sheet
@@ -33,4 +34,4 @@ returns-clause-sheet g c =
     let x = c.args.self.now in
     let has = simp (c.unwrap-struck.ensures, c.steps.ensures) at c.struck.ensures.answer in
     let fell = simp c.steps-2.ensures at c.fall.ensures in
-    rolled_back x c.fall.new.self c.args.mode c.unwrap-struck.result fell.rows fell.rolled has
+    rolled_back x c.args.mode c.unwrap-struck.result c.fall.new.self fell.rows fell.rolled has

@@ -15,5 +15,7 @@ loop-row-preserved c =
     let stops : ℕ → Bool = is_savepoint (chart_of x) (sheet_of x).rows in
     let number = member_number c.args.rows (omega arith) n c.in-Some.ensures.1 in
     let is : c.is_savepoint.result ≡ stops n = simp c.steps.ensures at c.is_savepoint.ensures in
-    gather_next p (λ k. stops k && p k) (λ k t. (and_parts (stops k) (p k) t).1) c.in-Some.ensures c.loop-row.savepoints c.put.new.self
-    c.loop-row.invariant number (is ∙ sym (ap (λ b. stops n && b) c.in-Some.ensures.1 ∙ and-true (stops n))) c.put.ensures
+    let same : c.is_savepoint.result ≡ (stops n && p n) =
+    is ∙ sym (ap (λ b. stops n && b) c.in-Some.ensures.1 ∙ and-true (stops n)) in
+    gather_next p (λ k. stops k && p k) (λ k t. (and_parts (stops k) (p k) t).1) c.in-Some.ensures
+    c.loop-row.savepoints c.put.new.self c.loop-row.invariant number same c.put.ensures

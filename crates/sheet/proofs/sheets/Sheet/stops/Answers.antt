@@ -1,4 +1,4 @@
-use Rattle.std.proofs.Common.{◌≡◌, ◌∙◌, arith, refl}
+use Rattle.std.proofs.Common.{◌≡◌, ℕ, Bool, ◌∙◌, arith, refl}
 use Rattle.values.specs.declared.RowState.TheVariants.{Committed}
 use Rattle.model.specs.Search.{has}
 use Rattle.model.specs.Rows.{in_state}
@@ -11,7 +11,8 @@ pub returns : goal.returns
 returns c w =
     let x = c.args.self.now in
     let r = (sheet_of x).rows in
-    let reached = c.predecessors_of-reached.ensures w ∙ any_behind x c.args.f c.args.behind.now c.requires (λ k. has w (r.preds k)) refl in
+    let follows : ℕ → Bool = λ k. has w (r.preds k) in
+    let reached = c.predecessors_of-reached.ensures w ∙ any_behind x c.args.f c.args.behind.now c.requires follows refl in
     let committed : contains c.rows_in.result w ≡ in_state r Committed w = c.rows_in.ensures w in
     let met = c.meet.ensures w in
     let stop = c.savepoints.ensures w in
