@@ -1,5 +1,5 @@
 //! What can be done with marks.
-ghost use Rattle.std.specs.Prelude.{◌≡◌, true, length};
+ghost use Rattle.std.specs.Prelude.{◌≡◌, ℕ, ◌+◌, ◌<◌, ◌≤◌, true, false, length};
 ghost use Rattle.graph.specs.Column.{covered, marked, with_mark, Kept, Wiped};
 ghost use Rattle.graph.specs.Held.{held};
 ghost use Rattle.graph.specs.Reach.{Least};
@@ -30,13 +30,38 @@ impl<'a> Marks<'a> {
         self.covers(i) && self.column[i] != 0
     }
 
+    /// Whether none of the eight points from `i` on is marked.
+    fn no_mark_in_eight(&self, i: usize) -> bool
+        requires { i + 8 ≤ length (held self.now) }
+        ensures { result ≡ true → (k : ℕ) → i ≤ k → k < i + 8 → marked (held self.now) k ≡ false }
+    {
+        let bytes = [
+            self.column[i],
+            self.column[i + 1],
+            self.column[i + 2],
+            self.column[i + 3],
+            self.column[i + 4],
+            self.column[i + 5],
+            self.column[i + 6],
+            self.column[i + 7],
+        ];
+        u64::from_le_bytes(bytes) == 0
+    }
+
     /// The least marked point above `after`.
     pub fn next_set(&self, after: usize) -> Option<usize>
         ensures { Least (λ k. marked (held self.now) k ≡ true) after result }
     {
-        for i in after.saturating_add(1)..mark_bytes(self.column) {
-            if self.column[i] != 0 {
+        let end = mark_bytes(self.column);
+        let mut i = after.saturating_add(1);
+        while i < end {
+            // marks are few, and eight bytes are one word
+            if end - i >= 8 && self.no_mark_in_eight(i) {
+                i += 8;
+            } else if self.column[i] != 0 {
                 return Some(i);
+            } else {
+                i += 1;
             }
         }
         None
