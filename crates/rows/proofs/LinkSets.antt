@@ -16,20 +16,21 @@ use Rattle.rows.proofs.Lists.{any_found}
 pub has_element : (xs : List ℕ) (i : ℕ) → i < length xs → has (get_or xs i 0) xs ≡ true
 has_element xs i h = any_found (eqb (get_or xs i 0)) xs i 0 h (eq-eqb _ (get_or xs i 0) refl)
 
--- the sets of the wanted rows are known up to `last`, and t is the next of them
-module _ (r : Rows) (sets : List RowSet) (wanted : ℕ → Bool) (last t : ℕ) (next : Least (λ k. wanted k ≡ true) last (Some t))
-    (known : (q : ℕ) → q ≤ last → wanted q ≡ true → HasLinks r q (links_at sets q)) where
-  pub known_below : (q : ℕ) → q < t → wanted q ≡ true → HasLinks r q (links_at sets q)
-  known_below q l w = elim (cases_lt last q) [
+-- the sets of the wanted rows from `least` on are known up to `last`, and t is the next of them
+module _ (r : Rows) (least : ℕ) (sets : List RowSet) (wanted : ℕ → Bool) (last t : ℕ)
+    (next : Least (λ k. wanted k ≡ true) last (Some t))
+    (known : (q : ℕ) → least ≤ q → q ≤ last → wanted q ≡ true → HasLinks r least q (links_at sets q)) where
+  pub known_below : (q : ℕ) → least ≤ q → q < t → wanted q ≡ true → HasLinks r least q (links_at sets q)
+  known_below q from l w = elim (cases_lt last q) [
     | inl high ↦ absurd (next.2 q high l w)
-    | inr low ↦ known q low w
+    | inr low ↦ known q from low w
   ]
 
-  pub known_more : (x : RowSet) → t < length sets → HasLinks r t x
-      → (q : ℕ) → q ≤ t → wanted q ≡ true → HasLinks r q (links_at (set sets t x) q)
-  known_more x room here q l w u = elim (cases_eq q t) [
+  pub known_more : (x : RowSet) → t < length sets → HasLinks r least t x
+      → (q : ℕ) → least ≤ q → q ≤ t → wanted q ≡ true → HasLinks r least q (links_at (set sets t x) q)
+  known_more x room here q from l w u on = elim (cases_eq q t) [
     | inl e ↦
         ap (λ k. contains (links_at (set sets t x) k) u) e
-        ∙ ap (λ s. contains s u) (get_or-set_same sets t x no_set room) ∙ here u ∙ ap (λ k. linked r u k) (sym e)
-    | inr ne ↦ ap (λ s. contains s u) (get_or-set_other sets t q x no_set ne) ∙ known_below q (omega arith) w u
+        ∙ ap (λ s. contains s u) (get_or-set_same sets t x no_set room) ∙ here u on ∙ ap (λ k. linked r u k) (sym e)
+    | inr ne ↦ ap (λ s. contains s u) (get_or-set_other sets t q x no_set ne) ∙ known_below q from (omega arith) w u on
   ]

@@ -1,5 +1,5 @@
 -- The rows that are linked to each row, as sets. Assumes nothing.
-use Rattle.std.specs.Prelude.{◌≡◌, ℕ, Bool, ◌&&◌, ◌||◌, List, ◌==◌, slice_index_or}
+use Rattle.std.specs.Prelude.{◌≡◌, ℕ, ◌≤◌, Bool, true, ◌&&◌, ◌||◌, List, ◌==◌, slice_index_or}
 use Rattle.values.specs.declared.RowState.TheVariants.{PassedOver}
 use Rattle.model.specs.Rollback.{linked}
 use Rattle.model.specs.Rows.{Rows, in_state}
@@ -11,9 +11,13 @@ use Rattle.rows.specs.States.{no_set}
 abbrev pub links_at : List RowSet → ℕ → RowSet
 links_at sets k = slice_index_or sets k no_set
 
--- the members are the rows from which a path leads to v with only passed-over rows between
-abbrev pub HasLinks : Rows → ℕ → RowSet → Type 0
-HasLinks r v links = (u : ℕ) → contains links u ≡ linked r u v
+-- the members from row `least` on are the rows from which a path leads to v with only passed-over rows between
+abbrev pub HasLinks : Rows → ℕ → ℕ → RowSet → Type 0
+HasLinks r least v links = (u : ℕ) → least ≤ u → contains links u ≡ linked r u v
+
+-- those members that are among some rows are those of these rows from which such a path leads
+abbrev pub LinksAmong : Rows → RowSet → ℕ → RowSet → Type 0
+LinksAmong r rows v links = (u : ℕ) → contains rows u ≡ true → contains links u ≡ linked r u v
 
 -- what row q brings to each row that follows it: itself, and if it is passed over, the rows that are linked to it
 abbrev pub brings : Rows → ℕ → ℕ → Bool

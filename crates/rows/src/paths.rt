@@ -1,12 +1,12 @@
 // Questions on the paths between rows.
-ghost use Rattle.std.specs.Prelude.{◌≡◌, ℕ, ◌<◌, true, not, ◌||◌};
+ghost use Rattle.std.specs.Prelude.{◌≡◌, ℕ, ◌<◌, ◌≤◌, true, not, ◌||◌};
 ghost use Rattle.graph.specs.Held.{held};
 ghost use Rattle.graph.specs.Scratch.{roomy_in};
 ghost use Rattle.model.specs.Calls.{due_after};
 ghost use Rattle.values.specs.declared.RowState.TheVariants.{PassedOver};
 ghost use Rattle.model.specs.Rows.{in_state};
 ghost use Rattle.rows.specs.Marking.{Walked, due_above, lowest_due};
-ghost use Rattle.rows.specs.Linked.{HasLinks, brings, links_at};
+ghost use Rattle.rows.specs.Linked.{HasLinks, LinksAmong, brings, links_at};
 ghost use Rattle.rowset.specs.Members.{is_number, contains};
 ghost use Rattle.rows.specs.Tables.{rows_of};
 
@@ -55,28 +55,32 @@ impl RowTable {
         Ok(self.lowest_due(row, scratch.marks))
     }
 
-    /// Adds a row, and if it is passed over what is linked to it.
-    fn add_links(&self, row: u16, known: &[RowSet; 257], links: &mut RowSet)
+    // Adds a row, and if it is passed over what is linked to it; not a row below `least`, to which only lower ones are linked.
+    fn add_links(&self, row: u16, least: u16, known: &[RowSet; 257], links: &mut RowSet)
         requires row { is_number row ≡ true }
-        requires known { in_state (rows_of self.now) PassedOver row ≡ true
-            → HasLinks (rows_of self.now) row (links_at known.now row) }
-        ensures { (u : ℕ) → contains links.new u ≡ (contains links.old u || brings (rows_of self.now) row u) }
+        requires known { least ≤ row → in_state (rows_of self.now) PassedOver row ≡ true
+            → HasLinks (rows_of self.now) least row (links_at known.now row) }
+        ensures { (u : ℕ) → least ≤ u
+            → contains links.new u ≡ (contains links.old u || brings (rows_of self.now) row u) }
     {
+        if row < least {
+            return;
+        }
         links.insert(row);
         if self.is_in(RowState::PassedOver, row) {
             links.join(&known[row as usize]);
         }
     }
 
-    /// The rows linked to a row, where those linked to each lower row that is passed over are known.
-    fn links_of(&self, row: u16, known: &[RowSet; 257]) -> RowSet
-        requires { (q : ℕ) → q < row → in_state (rows_of self.now) PassedOver q ≡ true
-            → HasLinks (rows_of self.now) q (links_at known.now q) }
-        ensures { HasLinks (rows_of self.now) row result }
+    // The rows from `least` on that are linked to a row, where those linked to each lower row that is passed over are known.
+    fn links_of(&self, row: u16, least: u16, known: &[RowSet; 257]) -> RowSet
+        requires { (q : ℕ) → least ≤ q → q < row → in_state (rows_of self.now) PassedOver q ≡ true
+            → HasLinks (rows_of self.now) least q (links_at known.now q) }
+        ensures { HasLinks (rows_of self.now) least row result }
     {
         let mut links = RowSet::new();
         for before in self.predecessors(row) {
-            self.add_links(*before, known, &mut links);
+            self.add_links(*before, least, known, &mut links);
         }
         links
     }
@@ -90,16 +94,20 @@ impl RowTable {
         wanted
     }
 
-    /// The rows linked to each row of a set, by its number.
-    // those linked to rows that are passed over are found too: links lead through them
+    /// Of some rows, those that are linked to each of them, by its number. What else the sets have is of no meaning.
+    // what is linked to rows that are passed over is found too: links lead through them
     pub fn links(&self, rows: &RowSet) -> [RowSet; 257]
-        ensures { (v : ℕ) → contains rows.now v ≡ true → HasLinks (rows_of self.now) v (links_at result v) }
+        ensures { (v : ℕ) → contains rows.now v ≡ true
+            → LinksAmong (rows_of self.now) rows.now v (links_at result v) }
     {
         let mut links = [RowSet::new(); 257];
+        let Some(least) = rows.next_above(0) else {
+            return links;
+        };
         let wanted = self.with_passed(rows);
-        let mut last = 0;
+        let mut last = least - 1;
         while let Some(row) = wanted.next_above(last) {
-            links[row as usize] = self.links_of(row, &links);
+            links[row as usize] = self.links_of(row, least, &links);
             last = row;
         }
         links

@@ -1,8 +1,10 @@
 -- The rows whose links are found are those of the set, and those that are passed over.
-use Rattle.std.proofs.Common.{◌≡◌, ℕ, ◌<◌, true, length, ◌∙◌, inl, inr, arith}
-use Rattle.std.proofs.lemmas.Bool.{cases_lt, or_left, or_right}
+use Rattle.std.proofs.Common.{◌≡◌, ℕ, ◌<◌, ◌≤◌, true, length, Some, sym, ap, ◌∙◌, inl, inr, arith}
+use borrow.Author.Tests.{clash}
+use Rattle.std.proofs.lemmas.Bool.{cases_eq, cases_lt, or_left, or_right}
 use Rattle.std.proofs.lemmas.List.{length-set}
 use Rattle.std.proofs.lemmas.Bool.Decides.{nat_tests}
+use Rattle.graph.specs.Reach.{Least}
 use Rattle.rowset.specs.declared.RowSet.{RowSet}
 use Rattle.rowset.specs.Members.{contains}
 use Rattle.rows.proofs.Members.{member_number}
@@ -11,33 +13,44 @@ use Rattle.rows.proofs.LinkSets.{known_below, known_more}
 use Rattle.rows.proofs.table.RowTable.links.Goals as goal
 
 pub links_of-requires : goal.links_of-requires
-links_of-requires c = λ q l passed.
+links_of-requires c = λ q from l passed.
     let wanted = c.with_passed-wanted.ensures q ∙ or_left _ _ passed in
-    known_below (rows_of c.args.self.now) c.loop-row.links (contains c.with_passed-wanted.result) c.loop-row.last c.in-Some.row c.in-Some.ensures
-    c.loop-row.invariant.known q l wanted
+    known_below (rows_of c.args.self.now) c.in-Some.least c.loop-row.links (contains c.with_passed-wanted.result) c.loop-row.last c.in-Some-next_above.row c.in-Some-next_above.ensures
+    c.loop-row.invariant.known q from l wanted
 
 row_within : (s : RowSet) → length s.words ≡ 4 → (k : ℕ) → contains s k ≡ true → k < 257
 row_within s long k m = let n = member_number s long k m in grind (arith, nat_tests)
 
 pub bounds-links-row : goal.bounds-links-row
-bounds-links-row c = row_within c.with_passed-wanted.result (omega arith) c.in-Some.row c.in-Some.ensures.1
+bounds-links-row c = row_within c.with_passed-wanted.result (omega arith) c.in-Some-next_above.row c.in-Some-next_above.ensures.1
 
 pub loop-row-preserved : goal.loop-row-preserved
 loop-row-preserved c =
     let sets = c.loop-row.links in
-    let row = c.in-Some.row in
+    let row = c.in-Some-next_above.row in
     record {
       size = length-set sets row c.links_of.result ∙ c.loop-row.invariant.size;
-      known = known_more (rows_of c.args.self.now) sets (contains c.with_passed-wanted.result) c.loop-row.last row c.in-Some.ensures
+      known = known_more (rows_of c.args.self.now) c.in-Some.least sets (contains c.with_passed-wanted.result) c.loop-row.last row c.in-Some-next_above.ensures
           c.loop-row.invariant.known c.links_of.result
-          (omega (arith, row_within c.with_passed-wanted.result (omega arith) row c.in-Some.ensures.1, c.loop-row.invariant.size))
+          (omega (arith, row_within c.with_passed-wanted.result (omega arith) row c.in-Some-next_above.ensures.1, c.loop-row.invariant.size))
           c.links_of.ensures;
     }
 
+-- a member is not below the least one
+not_below : (s : RowSet) (least : ℕ) → Least (λ k. contains s k ≡ true) 0 (Some least) → (u : ℕ) → contains s u ≡ true → least ≤ u
+not_below s least (above, here, none) u m = elim (cases_lt u least) [
+  | inr h ↦ h
+  | inl l ↦ elim (cases_eq u 0) [
+    | inl e ↦ absurd (clash (sym (ap (contains s) e) ∙ m))
+    | inr ne ↦ absurd (none u (omega arith) l m)
+  ]
+]
+
 pub returns : goal.returns
-returns c = λ v member.
+returns c = λ v member u among.
     let wanted = c.with_passed-wanted.ensures v ∙ or_right _ _ member in
+    let from = not_below c.args.rows.now c.in-Some.least c.in-Some.ensures in
     elim (cases_lt c.loop-row.last v) [
-      | inl high ↦ absurd (c.in_default.ensures v high wanted)
-      | inr low ↦ c.loop-row.invariant.known v low wanted
+      | inl high ↦ absurd (c.in_default-next_above.ensures v high wanted)
+      | inr low ↦ c.loop-row.invariant.known v (from v member) low wanted u (from u among)
     ]

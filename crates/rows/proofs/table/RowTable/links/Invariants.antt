@@ -8,7 +8,8 @@ abbrev pub invariant-loop-row : goal.invariant-loop-row
 invariant-loop-row l =
     record {
       size : length l.links ≡ 257;
-      known : (q : ℕ) → q ≤ l.last → contains l.wanted q ≡ true → HasLinks (rows_of l.self) q (links_at l.links q);
+      known : (q : ℕ) → l.least ≤ q → q ≤ l.last → contains l.wanted q ≡ true
+          → HasLinks (rows_of l.self) l.least q (links_at l.links q);
     }
 
 abbrev pub decreases-loop-row : goal.decreases-loop-row

@@ -20,25 +20,25 @@ add_links-requires-clause-row c =
     within_numbers q low (omega (arith, t.few, t.rows.ok.0))
 
 pub add_links-requires-clause-known : goal.add_links-requires-clause-known
-add_links-requires-clause-known c =
+add_links-requires-clause-known c = λ from.
     let xs = c.predecessors-before-items.result.now in
     let q = get_or xs c.loop-before.before-index 0 in
     let m = sym (ap (has q) c.predecessors-before-items.ensures.all) ∙ has_element xs c.loop-before.before-index c.loop-before-test.true in
-    c.requires q (c.args.self.now.lower c.args.row q m)
+    c.requires q from (c.args.self.now.lower c.args.row q m)
 
 pub loop-before-preserved : goal.loop-before-preserved
-loop-before-preserved c = λ u.
+loop-before-preserved c = λ u on.
     let t = c.args.self.now in
     let p : ℕ → Bool = λ q. brings (rows_of t) q u in
     let xs = c.predecessors-before-items.result.now in
     let i = c.loop-before.before-index in
-    c.add_links.ensures u ∙ ap (λ b. b || p (get_or xs i 0)) (c.loop-before.invariant u) ∙ sym (any_more p xs i c.loop-before-test.true)
+    c.add_links.ensures u on ∙ ap (λ b. b || p (get_or xs i 0)) (c.loop-before.invariant u on) ∙ sym (any_more p xs i c.loop-before-test.true)
 
 pub returns : goal.returns
-returns c = λ u.
+returns c = λ u on.
     let t = c.args.self.now in
     let p : ℕ → Bool = λ q. brings (rows_of t) q u in
     let xs = c.predecessors-before-items.result.now in
-    c.loop-before.invariant u
+    c.loop-before.invariant u on
     ∙ ap (any p) (take_all c.loop-before.before-index xs c.loop-before-test.false ∙ c.predecessors-before-items.ensures.all)
     ∙ sym (linked_step (vec_items t.rows) t.lower t.positive u c.args.row)
