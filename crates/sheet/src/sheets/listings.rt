@@ -9,7 +9,7 @@ ghost use Rattle.model.specs.Rollback.{stopped, restart_points};
 ghost use Rattle.model.specs.Sheet.{arrows_from, graph_arrows};
 ghost use Rattle.model.specs.Run.{column_after};
 ghost use Rattle.rowset.specs.Members.{contains};
-ghost use Rattle.rows.specs.Linked.{HasLinks, links_at};
+ghost use Rattle.rows.specs.Linked.{LinksAmong, links_at};
 ghost use Rattle.values.specs.Checks.{answer};
 ghost use Rattle.values.specs.declared.Mode.TheVariants.{Partial};
 ghost use Rattle.sheet.specs.Listings.{graph_check, HasBehind, HasGraph, Puts, ends, listed};
@@ -98,12 +98,12 @@ impl Sheet {
         at: usize,
     ) -> usize
         requires graph { HasGraph (sheet_of self.now) graph.now }
-        requires links { HasLinks (sheet_of self.now).rows from links.now }
+        requires links { LinksAmong (sheet_of self.now).rows graph.now from links.now }
         requires room { at + 257 < 2 ^ 64 }
         ensures { Puts (arrows_from (sheet_of self.now) from) at table.old result table.new }
     {
-        let mut to = *links;
-        to.meet(graph);
+        let mut to = *graph;
+        to.meet(links);
         self.put_arrows_to(from, &to, table, at)
     }
 
@@ -111,7 +111,7 @@ impl Sheet {
     fn put_arrows(&self, graph: &RowSet, links: &[RowSet; 257], table: &mut [RowArrow]) -> usize
         requires graph { HasGraph (sheet_of self.now) graph.now }
         requires links { (v : ℕ) → contains graph.now v ≡ true
-            → HasLinks (sheet_of self.now).rows v (links_at links.now v) }
+            → LinksAmong (sheet_of self.now).rows graph.now v (links_at links.now v) }
         ensures { Puts (graph_arrows (sheet_of self.now)) 0 table.old result table.new }
     {
         let mut next = 0;
