@@ -1,12 +1,15 @@
 // The reply: what a sheet shows to those outside.
-ghost use Rattle.std.specs.Prelude.{◌≡◌, ◌+◌, ◌<◌, ◌≤◌, length};
+ghost use Rattle.std.specs.Prelude.{◌≡◌, ◌+◌, ◌<◌, ◌≤◌, length, true};
+ghost use Rattle.model.specs.Chart.{step_at};
 ghost use Rattle.model.specs.Report.{shown};
-ghost use Rattle.sheet.specs.Fields.{SetsStep, Shows, ShowsNow, StandsFirst};
+ghost use Rattle.rows.specs.Highest.{is_highest};
+ghost use Rattle.sheet.specs.Fields.{SetsStep, Shows, ShowsNow, StandsFirst, shown_below};
 ghost use Rattle.sheet.specs.Reports.{Replies};
 ghost use Rattle.sheet.specs.SheetOf.{sheet_of, chart_of};
 
 use super::Sheet;
 use crate::bits::set_field;
+use rows::step_at;
 use values::{Cause, Fault, Layer};
 
 /// How many bytes a reply has.
@@ -32,12 +35,11 @@ fn set_step(bytes: &mut [u8], step: u16, value: u8)
 }
 
 impl Sheet {
-    // What is shown of a step: that it is private, or the state of its highest row.
-    fn shown(&self, step: u16) -> u8
-        ensures is { result ≡ shown (chart_of self.now) (sheet_of self.now) step }
-        ensures small { result < 8 }
+    // Whether a step is private.
+    fn is_private(&self, step: u16) -> bool
+        ensures { result ≡ (step_at (chart_of self.now) step).private }
     {
-        self.standing(step).map_or(PRIVATE, u8::from)
+        step_at(self.process.steps(), step).private
     }
 
     // Writes the form number, the phase, the number of steps less 1 and that of the rollback, and zeros.
@@ -52,14 +54,45 @@ impl Sheet {
         set_field(bytes, 16, 16, self.rollback);
     }
 
-    // Writes what is shown of each step. No fact of a sheet says that the step of a row is one of the process.
-    fn write_steps(&self, bytes: &mut [u8])
+    // Writes which steps are private.
+    fn write_private(&self, bytes: &mut [u8])
         requires room { 32 ≤ length bytes.old }
         requires blank { Shows self.now (λ _. 0) bytes.old }
+        ensures { ShowsNow self.now (shown_below self.now 1) bytes.old bytes.new }
+    {
+        let steps = self.process.steps().len() as u16;
+        for step in 1..steps + 1 {
+            if self.is_private(step) {
+                set_step(bytes, step, PRIVATE);
+            }
+        }
+    }
+
+    // Writes the state of the highest row of a step, unless that is private. No fact of a sheet says that the step has a
+    // field.
+    fn write_row(&self, row: u16, bytes: &mut [u8])
+        requires room { 32 ≤ length bytes.old }
+        requires highest { is_highest (sheet_of self.now).rows row ≡ true }
+        requires before { Shows self.now (shown_below self.now row) bytes.old }
+        ensures { ShowsNow self.now (shown_below self.now (row + 1)) bytes.old bytes.new }
+    {
+        let step = self.table.step(row);
+        if (1..=STEPS).contains(&step) && !self.is_private(step) {
+            set_step(bytes, step, u8::from(self.table.state(row)));
+        }
+    }
+
+    // Writes the state of the highest row of each step.
+    fn write_rows(&self, bytes: &mut [u8])
+        requires room { 32 ≤ length bytes.old }
+        requires before { Shows self.now (shown_below self.now 1) bytes.old }
         ensures { ShowsNow self.now (shown (chart_of self.now) (sheet_of self.now)) bytes.old bytes.new }
     {
-        for step in 1..=STEPS {
-            set_step(bytes, step, self.shown(step));
+        let highest = self.table.highest();
+        let mut last = 0;
+        while let Some(row) = highest.next_above(last) {
+            self.write_row(row, bytes);
+            last = row;
         }
     }
 
@@ -69,7 +102,8 @@ impl Sheet {
         ensures { StandsFirst self.now bytes.old bytes.new }
     {
         self.write_front(bytes);
-        self.write_steps(bytes);
+        self.write_private(bytes);
+        self.write_rows(bytes);
     }
 
     /// Writes the 32 bytes of a reply at a place of a buffer.

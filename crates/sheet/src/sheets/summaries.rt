@@ -61,16 +61,17 @@ impl Sheet {
     fn highest_state(&self, step: u16) -> RowState
         ensures { result ≡ highest_state (sheet_of self.now).rows step ((sheet_of self.now).rows.count + 1) }
     {
-        for row in (1..self.table.len() + 1).rev() {
+        let mut highest = RowState::Absent;
+        for row in 0..self.table.len() + 1 {
             if self.table.step(row) == step {
-                return self.table.state(row);
+                highest = self.table.state(row);
             }
         }
-        RowState::Absent
+        highest
     }
 
     // How a step stands.
-    pub(super) fn standing(&self, step: u16) -> Option<RowState>
+    fn standing(&self, step: u16) -> Option<RowState>
         ensures { result ≡ standing (chart_of self.now) (sheet_of self.now).rows step }
     {
         if step_at(self.process.steps(), step).private {
