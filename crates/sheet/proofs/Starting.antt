@@ -26,10 +26,10 @@ use Rattle.rows.specs.Columns.{fits, no_row, row_at}
 use Rattle.rows.specs.Tables.{rows_of, rolled_of}
 use Rattle.rows.proofs.Columns.{known_within, row_past}
 use Rattle.sheet.specs.declared.sheets.Sheet.{Sheet as Code}
-use Rattle.sheet.specs.Graphs.{HoldsGraph}
+use Rattle.sheet.specs.Graphs.{HasGraph}
 use Rattle.sheet.specs.Parts.{sheet_from}
 use Rattle.sheet.specs.SheetOf.{sheet_of, chart_of}
-use Rattle.sheet.proofs.Graphs.{marks, graph_put}
+use Rattle.sheet.proofs.Graphs.{graph_state, graph_put}
 use Rattle.sheet.proofs.Comings.{Passes, none_declines, other_rows}
 use mathlib.Core.Logic.{∥∥₁_map}
 use Rattle.model.specs.Sheets.{Kept}
@@ -115,10 +115,10 @@ module _ (x : Code) (v : View) (k : ℕ) (fs : List ℕ) (e : Entry)
     start_kept = ∥∥₁_map x.kept (λ kept. subst Kept (sym pushed) (on_start (chart_of x) (sheet_of x) v kept k fs e none))
 
     -- the number of the new row was absent
-    pub start_holds : HoldsGraph (sheet_from t x.phase x.rollback x.serial x.mode) x.graph
+    pub start_holds : HasGraph (sheet_from t x.phase x.rollback x.serial x.mode) x.graph
     start_holds =
         let s = sheet_of x in
         let n = s.rows.count + 1 in
         let absent : no_row ≡ row_at x.table.rows.items n = row_past x.table.rows.items n (inr (omega arith)) in
-        subst (λ u. HoldsGraph u x.graph) (sym pushed)
-        (graph_put s x.graph n Running (sym (ap (λ r. marks r.state) absent)) x.holds (added s.rows k fs e) refl)
+        subst (λ u. HasGraph u x.graph) (sym pushed)
+        (graph_put s x.graph n Running (sym (ap (λ r. graph_state r.state) absent)) x.holds (added s.rows k fs e) refl)

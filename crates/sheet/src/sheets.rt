@@ -1,6 +1,6 @@
 // The sheet.
 ghost use Rattle.model.specs.Sheets.{Kept};
-ghost use Rattle.sheet.specs.Graphs.{HoldsGraph, HoldsGraph-prop};
+ghost use Rattle.sheet.specs.Graphs.{HasGraph, HasGraph-prop};
 ghost use Rattle.sheet.specs.Parts.{sheet_from};
 
 use process::Process;
@@ -34,5 +34,5 @@ pub struct Sheet {
     // the rows of the compensating graph: those that the last abort made due
     graph: RowSet,
     ghost kept: { ∥ Kept (sheet_from table phase rollback serial mode) ∥₁ },
-    ghost holds: { HoldsGraph (sheet_from table phase rollback serial mode) graph } by { HoldsGraph-prop (sheet_from table phase rollback serial mode) graph },
+    ghost holds: { HasGraph (sheet_from table phase rollback serial mode) graph } by { HasGraph-prop _ _ },
 }

@@ -12,7 +12,6 @@ ghost use Rattle.rowset.specs.Members.{contains};
 ghost use Rattle.rows.specs.Linked.{HasLinks, links_at};
 ghost use Rattle.values.specs.Checks.{answer};
 ghost use Rattle.values.specs.declared.Mode.TheVariants.{Partial};
-ghost use Rattle.sheet.specs.Graphs.{HasGraph};
 ghost use Rattle.sheet.specs.Listings.{graph_check, HasBehind, Puts, ends, listed};
 ghost use Rattle.sheet.specs.Reports.{Lists, points_of};
 ghost use Rattle.sheet.specs.SheetOf.{sheet_of, chart_of};
@@ -66,36 +65,27 @@ impl Sheet {
         next
     }
 
-    // Puts the arrows from a row of the graph, by the rows of the graph and those that are linked to this one.
-    fn put_arrows_from(
-        &self,
-        from: u16,
-        graph: &RowSet,
-        links: &RowSet,
-        table: &mut [RowArrow],
-        at: usize,
-    ) -> usize
-        requires graph { HasGraph (sheet_of self.now) graph.now }
+    // Puts the arrows from a row of the graph, by the rows that are linked to it.
+    fn put_arrows_from(&self, from: u16, links: &RowSet, table: &mut [RowArrow], at: usize) -> usize
         requires links { HasLinks (sheet_of self.now).rows from links.now }
         requires room { at + 257 < 2 ^ 64 }
         ensures { Puts (arrows_from (sheet_of self.now) from) at table.old result table.new }
     {
         let mut to = *links;
-        to.meet(graph);
+        to.meet(&self.graph);
         self.put_arrows_to(from, &to, table, at)
     }
 
     // Puts the arrows of the graph.
-    fn put_arrows(&self, graph: &RowSet, links: &[RowSet; 257], table: &mut [RowArrow]) -> usize
-        requires graph { HasGraph (sheet_of self.now) graph.now }
-        requires links { (v : ℕ) → contains graph.now v ≡ true
+    fn put_arrows(&self, links: &[RowSet; 257], table: &mut [RowArrow]) -> usize
+        requires { (v : ℕ) → contains self.now.graph v ≡ true
             → HasLinks (sheet_of self.now).rows v (links_at links.now v) }
         ensures { Puts (graph_arrows (sheet_of self.now)) 0 table.old result table.new }
     {
         let mut next = 0;
         let mut last = 0;
-        while let Some(row) = graph.next_above(last) {
-            next = self.put_arrows_from(row, graph, &links[usize::from(row)], table, next);
+        while let Some(row) = self.graph.next_above(last) {
+            next = self.put_arrows_from(row, &links[usize::from(row)], table, next);
             last = row;
         }
         next
@@ -206,12 +196,12 @@ impl Sheet {
         let links = self.table.links(&self.graph);
         let points = self.points(scratch);
         // both are counted first: a declined listing leaves both tables as they were
-        let arrow_count = self.put_arrows(&self.graph, &links, &mut []);
+        let arrow_count = self.put_arrows(&links, &mut []);
         let restart_count = points.put(&mut []);
         if arrow_count > arrows.len() || restart_count > restarts.len() {
             return Err(Layer::Sheet.fault(Cause::ShortMemory, 0));
         }
-        self.put_arrows(&self.graph, &links, arrows);
+        self.put_arrows(&links, arrows);
         points.put(restarts);
         Ok((arrow_count, restart_count))
     }

@@ -10,10 +10,10 @@ use Rattle.model.specs.Sheets.{Kept}
 use Rattle.model.proofs.Accepted.{end_running}
 use Rattle.model.proofs.Kept.{on_end}
 use Rattle.sheet.specs.Calls.{end_checks}
-use Rattle.sheet.specs.Graphs.{HoldsGraph}
+use Rattle.sheet.specs.Graphs.{HasGraph}
 use Rattle.sheet.specs.SheetOf.{sheet_of, chart_of}
 use Rattle.sheet.proofs.Comings.{host_declines, none_declines, other_rows, put_into}
-use Rattle.sheet.proofs.Graphs.{marks, graph_put}
+use Rattle.sheet.proofs.Graphs.{graph_state, graph_put}
 use Rattle.sheet.proofs.sheets.Sheet.end.Goals as goal
 
 pub returns-in_err-commit-clause-comes : goal.returns-in_err-commit-clause-comes
@@ -36,6 +36,6 @@ invariant_of-self g c =
     record {
       kept = ∥∥₁_map c.args.self.now.kept
           (λ kept. subst Kept (sym is) (on_end (chart_of c.args.self.now) s v kept k none));
-      holds = subst (λ t. HoldsGraph t c.args.self.now.graph) (sym is)
-          (graph_put s c.args.self.now.graph k Committed (ap marks runs) c.args.self.now.holds (marked s.rows k Committed) refl);
+      holds = subst (λ t. HasGraph t c.args.self.now.graph) (sym is)
+          (graph_put s c.args.self.now.graph k Committed (ap graph_state runs) c.args.self.now.holds (marked s.rows k Committed) refl);
     }

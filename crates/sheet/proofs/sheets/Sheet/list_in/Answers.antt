@@ -1,7 +1,5 @@
 use Rattle.sheet.specs.Listings.{listed}
 use Rattle.sheet.proofs.Lists.{lists_all, lists_short}
-use Rattle.sheet.specs.SheetOf.{sheet_of}
-use Rattle.sheet.proofs.Graphs.{has_graph}
 use Rattle.sheet.proofs.sheets.Sheet.list_in.Goals as goal
 
 pub returns-then-arrow_count-arrows-clause-lists : goal.returns-then-arrow_count-arrows-clause-lists
@@ -15,9 +13,3 @@ returns-clause-lists c =
     lists_all (listed c.points-points.result) c.points-points.ensures.points c.requires c.in_ok-wants_graph.ensures
     c.put_arrows-arrow_count.ensures c.put-restart_count.ensures c.if-arrow_count-arrows.false
     c.if-restart_count-restarts.false c.put_arrows.ensures c.put.ensures
-
-pub put_arrows-arrow_count-requires-clause-graph : goal.put_arrows-arrow_count-requires-clause-graph
-put_arrows-arrow_count-requires-clause-graph c = let x = c.args.self.now in has_graph (sheet_of x) x.graph x.holds
-
-pub put_arrows-requires-clause-graph : goal.put_arrows-requires-clause-graph
-put_arrows-requires-clause-graph c = let x = c.args.self.now in has_graph (sheet_of x) x.graph x.holds

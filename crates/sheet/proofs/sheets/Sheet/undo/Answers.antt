@@ -10,12 +10,12 @@ use Rattle.model.specs.Rows.{marked}
 use Rattle.model.specs.Sheets.{Kept}
 use Rattle.model.proofs.Accepted.{undo_due}
 use Rattle.model.proofs.Kept.{on_undo}
-use Rattle.sheet.specs.Graphs.{HoldsGraph}
+use Rattle.sheet.specs.Graphs.{HasGraph}
 use Rattle.sheet.specs.SheetOf.{sheet_of, chart_of}
 use Rattle.sheet.specs.Tickets.{undo_own_checks}
 use Rattle.sheet.proofs.Clearing.{left_cleared}
 use Rattle.sheet.proofs.Comings.{own_declines, host_declines, both_accept, passed_first, none_declines, other_rows, put_into}
-use Rattle.sheet.proofs.Graphs.{marks, graph_put}
+use Rattle.sheet.proofs.Graphs.{graph_state, graph_put}
 use Rattle.sheet.proofs.sheets.Sheet.undo.Goals as goal
 
 pub returns-in_err-may_undo-clause-comes : goal.returns-in_err-may_undo-clause-comes
@@ -53,8 +53,8 @@ invariant_of-self g c =
     record {
       kept = ∥∥₁_map c.args.self.now.kept
           (λ kept. subst Kept (sym is) (on_undo (chart_of c.args.self.now) s v kept t k 257 256 none));
-      holds = subst (λ u. HoldsGraph u c.args.self.now.graph) (sym is)
-          (graph_put s c.args.self.now.graph k Undone (ap marks due) c.args.self.now.holds (marked s.rows k Undone) refl);
+      holds = subst (λ u. HasGraph u c.args.self.now.graph) (sym is)
+          (graph_put s c.args.self.now.graph k Undone (ap graph_state due) c.args.self.now.holds (marked s.rows k Undone) refl);
     }
 
 pub returns-clause-comes : goal.returns-clause-comes
