@@ -1,11 +1,11 @@
 -- A row that may start can be added to the table. Assumes nothing.
-use Rattle.std.proofs.Common.{◌≡◌, ℕ, ◌+◌, ◌≤◌, Bool, true, false, cond, not, ◌&&◌, ◌||◌, eqb, ltb, leb, List, ◌++◌, length, None, Option, sym, subst, ap, ◌∙◌, inl, inr, arith}
+use Rattle.std.proofs.Common.{◌≡◌, ℕ, ◌+◌, ◌≤◌, Bool, true, false, cond, not, ◌&&◌, ◌||◌, eqb, ltb, leb, List, ◌++◌, length, None, Option, refl, sym, subst, ap, ◌∙◌, inl, inr, arith}
 use Rattle.std.proofs.lemmas.Bool.{and_from, or_parts, not-false, eqb-true, le-leb, lt-ltb, cases_Bool, both_ways, not_from_false, not_from_true}
 use Rattle.values.specs.declared.Cause.TheVariants.{NoSuch, WrongCount}
 use Rattle.values.specs.declared.Flow.{Flow}
 use Rattle.values.specs.declared.Kind.{Kind}
 use Rattle.values.specs.declared.Layer.TheVariants.{Sheet as OfSheet}
-use Rattle.values.specs.declared.RowState.TheVariants.{Absent}
+use Rattle.values.specs.declared.RowState.TheVariants.{Absent, Running}
 use Rattle.values.specs.Numbers.{same_state}
 use Rattle.host.specs.Keys.{key_of}
 use Rattle.host.specs.View.{View, begin_checks}
@@ -22,12 +22,14 @@ use Rattle.values.specs.Checks.{first_fault}
 use Rattle.process.specs.Accepted.{tables_of}
 use Rattle.process.specs.declared.accepted.Process.{Process}
 use Rattle.rows.specs.declared.table.RowTable.{RowTable}
-use Rattle.rows.specs.Columns.{fits}
+use Rattle.rows.specs.Columns.{fits, no_row, row_at}
 use Rattle.rows.specs.Tables.{rows_of, rolled_of}
-use Rattle.rows.proofs.Columns.{known_within}
+use Rattle.rows.proofs.Columns.{known_within, row_past}
 use Rattle.sheet.specs.declared.sheets.Sheet.{Sheet as Code}
+use Rattle.sheet.specs.Graphs.{HasGraph}
 use Rattle.sheet.specs.Parts.{sheet_from}
 use Rattle.sheet.specs.SheetOf.{sheet_of, chart_of}
+use Rattle.sheet.proofs.Graphs.{graph_state, graph_put}
 use Rattle.sheet.proofs.Comings.{Passes, none_declines, other_rows}
 use mathlib.Core.Logic.{∥∥₁_map}
 use Rattle.model.specs.Sheets.{Kept}
@@ -111,3 +113,12 @@ module _ (x : Code) (v : View) (k : ℕ) (fs : List ℕ) (e : Entry)
 
     pub start_kept : ∥ Kept (sheet_from t x.phase x.rollback x.serial x.mode) ∥₁
     start_kept = ∥∥₁_map x.kept (λ kept. subst Kept (sym pushed) (on_start (chart_of x) (sheet_of x) v kept k fs e none))
+
+    -- the number of the new row was absent
+    pub start_holds : HasGraph (sheet_from t x.phase x.rollback x.serial x.mode) x.graph
+    start_holds =
+        let s = sheet_of x in
+        let n = s.rows.count + 1 in
+        let absent : no_row ≡ row_at x.table.rows.items n = row_past x.table.rows.items n (inr (omega arith)) in
+        subst (λ u. HasGraph u x.graph) (sym pushed)
+        (graph_put s x.graph n Running (sym (ap (λ r. graph_state r.state) absent)) x.holds (added s.rows k fs e) refl)

@@ -1,4 +1,5 @@
 -- What the contracts of this crate cite.
+pub mod Graphs
 pub mod Parts
 pub mod SheetOf
 pub mod Candidates

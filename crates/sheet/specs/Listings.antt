@@ -25,10 +25,6 @@ pub record Puts {X : Type 0} (xs : List X) (at : ℕ) (table : List X) (next : �
   pub place : next ≡ at + length xs
   pub written : table' ≡ put_all xs at table
 
--- the members are the rows of the graph
-abbrev pub HasGraph : Sheet → RowSet → Type 0
-HasGraph s set = (k : ℕ) → contains set k ≡ in_graph s k
-
 -- the members are the failing row and its backward part
 abbrev pub HasBehind : Chart → Rows → ℕ → RowSet → Type 0
 HasBehind c r f set = (k : ℕ) → contains set k ≡ (is_number k && behind c r f k)

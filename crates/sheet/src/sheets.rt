@@ -1,9 +1,11 @@
 // The sheet.
 ghost use Rattle.model.specs.Sheets.{Kept};
+ghost use Rattle.sheet.specs.Graphs.{HasGraph, HasGraph-prop};
 ghost use Rattle.sheet.specs.Parts.{sheet_from};
 
 use process::Process;
 use rows::RowTable;
+use rowset::RowSet;
 use values::{Mode, Phase};
 
 mod aborts;
@@ -29,5 +31,8 @@ pub struct Sheet {
     rollback: u16,
     serial: u16,
     mode: Mode,
+    // the rows of the compensating graph: those that the last abort made due
+    graph: RowSet,
     ghost kept: { ∥ Kept (sheet_from table phase rollback serial mode) ∥₁ },
+    ghost holds: { HasGraph (sheet_from table phase rollback serial mode) graph } by { HasGraph-prop _ _ },
 }

@@ -111,6 +111,7 @@ impl Sheet {
         self.phase = Phase::Undoing;
         self.rollback = rollback;
         self.mode = mode;
+        self.graph = self.table.rows_in(RowState::Due);
     }
 
     /// Rolls back, all of it or what a failing row calls for: running rows are dropped, on the sheet and at the host, and

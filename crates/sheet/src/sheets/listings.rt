@@ -12,7 +12,7 @@ ghost use Rattle.rowset.specs.Members.{contains};
 ghost use Rattle.rows.specs.Linked.{LinksAmong, links_at};
 ghost use Rattle.values.specs.Checks.{answer};
 ghost use Rattle.values.specs.declared.Mode.TheVariants.{Partial};
-ghost use Rattle.sheet.specs.Listings.{graph_check, HasBehind, HasGraph, Puts, ends, listed};
+ghost use Rattle.sheet.specs.Listings.{graph_check, HasBehind, Puts, ends, listed};
 ghost use Rattle.sheet.specs.Reports.{Lists, points_of};
 ghost use Rattle.sheet.specs.SheetOf.{sheet_of, chart_of};
 
@@ -50,29 +50,6 @@ impl Points {
 }
 
 impl Sheet {
-    // Those of some rows that the current rollback struck.
-    fn struck_now(&self, rows: RowSet) -> RowSet
-        ensures { (k : ℕ) → contains result k
-            ≡ (contains rows k && (sheet_of self.now).rolled k == (sheet_of self.now).rollback) }
-    {
-        let mut now = RowSet::new();
-        let mut last = 0;
-        while let Some(row) = rows.next_above(last) {
-            now.put(row, self.table.rolled(row) == self.rollback);
-            last = row;
-        }
-        now
-    }
-
-    // The rows of the graph: those that the current rollback made due.
-    fn graph(&self) -> RowSet
-        ensures { HasGraph (sheet_of self.now) result }
-    {
-        let mut rows = self.table.rows_in(RowState::Due);
-        rows.join(&self.table.rows_in(RowState::Undone));
-        self.struck_now(rows)
-    }
-
     // Puts the arrows from a row of the graph, by the set of the rows that they lead to.
     fn put_arrows_to(&self, from: u16, to: &RowSet, table: &mut [RowArrow], at: usize) -> usize
         requires to { (u : ℕ) → contains to.now u ≡ ends (sheet_of self.now) from u }
@@ -88,36 +65,27 @@ impl Sheet {
         next
     }
 
-    // Puts the arrows from a row of the graph, by the rows of the graph and those that are linked to this one.
-    fn put_arrows_from(
-        &self,
-        from: u16,
-        graph: &RowSet,
-        links: &RowSet,
-        table: &mut [RowArrow],
-        at: usize,
-    ) -> usize
-        requires graph { HasGraph (sheet_of self.now) graph.now }
-        requires links { LinksAmong (sheet_of self.now).rows graph.now from links.now }
+    // Puts the arrows from a row of the graph, by the rows that are linked to it.
+    fn put_arrows_from(&self, from: u16, links: &RowSet, table: &mut [RowArrow], at: usize) -> usize
+        requires links { LinksAmong (sheet_of self.now).rows self.now.graph from links.now }
         requires room { at + 257 < 2 ^ 64 }
         ensures { Puts (arrows_from (sheet_of self.now) from) at table.old result table.new }
     {
-        let mut to = *graph;
+        let mut to = self.graph;
         to.meet(links);
         self.put_arrows_to(from, &to, table, at)
     }
 
     // Puts the arrows of the graph.
-    fn put_arrows(&self, graph: &RowSet, links: &[RowSet; 257], table: &mut [RowArrow]) -> usize
-        requires graph { HasGraph (sheet_of self.now) graph.now }
-        requires links { (v : ℕ) → contains graph.now v ≡ true
-            → LinksAmong (sheet_of self.now).rows graph.now v (links_at links.now v) }
+    fn put_arrows(&self, links: &[RowSet; 257], table: &mut [RowArrow]) -> usize
+        requires { (v : ℕ) → contains self.now.graph v ≡ true
+            → LinksAmong (sheet_of self.now).rows self.now.graph v (links_at links.now v) }
         ensures { Puts (graph_arrows (sheet_of self.now)) 0 table.old result table.new }
     {
         let mut next = 0;
         let mut last = 0;
-        while let Some(row) = graph.next_above(last) {
-            next = self.put_arrows_from(row, graph, &links[usize::from(row)], table, next);
+        while let Some(row) = self.graph.next_above(last) {
+            next = self.put_arrows_from(row, &links[usize::from(row)], table, next);
             last = row;
         }
         next
@@ -225,16 +193,15 @@ impl Sheet {
         ensures loans { SameLoans scratch.old scratch.new }
     {
         self.wants_graph()?;
-        let graph = self.graph();
-        let links = self.table.links(&graph);
+        let links = self.table.links(&self.graph);
         let points = self.points(scratch);
         // both are counted first: a declined listing leaves both tables as they were
-        let arrow_count = self.put_arrows(&graph, &links, &mut []);
+        let arrow_count = self.put_arrows(&links, &mut []);
         let restart_count = points.put(&mut []);
         if arrow_count > arrows.len() || restart_count > restarts.len() {
             return Err(Layer::Sheet.fault(Cause::ShortMemory, 0));
         }
-        self.put_arrows(&graph, &links, arrows);
+        self.put_arrows(&links, arrows);
         points.put(restarts);
         Ok((arrow_count, restart_count))
     }

@@ -6,6 +6,7 @@ ghost use Rattle.sheet.specs.SheetOf.{sheet_of};
 use super::Sheet;
 use process::Process;
 use rows::RowTable;
+use rowset::RowSet;
 use std::alloc::{AllocError, Global};
 use values::{Mode, Phase};
 
@@ -23,6 +24,7 @@ impl Sheet {
             rollback: 0,
             serial,
             mode: Mode::Complete,
+            graph: RowSet::new(),
         })
     }
 

@@ -1,16 +1,19 @@
 -- A running row is committed at the host, and marked.
-use Rattle.std.proofs.Common.{sym, refl, ◌∙◌, subst, rules}
+use Rattle.std.proofs.Common.{sym, ap, refl, ◌∙◌, subst, rules}
 use mathlib.Core.Logic.{∥∥₁_map}
 use Rattle.values.specs.declared.HostState.TheVariants.{Open}
 use Rattle.values.specs.declared.RowState.TheVariants.{Running, Committed}
 use Rattle.host.specs.Keys.{key_of}
 use Rattle.host.specs.View.{move_checks}
+use Rattle.model.specs.Rows.{marked}
 use Rattle.model.specs.Sheets.{Kept}
 use Rattle.model.proofs.Accepted.{end_running}
 use Rattle.model.proofs.Kept.{on_end}
 use Rattle.sheet.specs.Calls.{end_checks}
+use Rattle.sheet.specs.Graphs.{HasGraph}
 use Rattle.sheet.specs.SheetOf.{sheet_of, chart_of}
 use Rattle.sheet.proofs.Comings.{host_declines, none_declines, other_rows, put_into}
+use Rattle.sheet.proofs.Graphs.{graph_state, graph_put}
 use Rattle.sheet.proofs.sheets.Sheet.end.Goals as goal
 
 pub returns-in_err-commit-clause-comes : goal.returns-in_err-commit-clause-comes
@@ -26,10 +29,13 @@ invariant_of-self g c =
     let k = c.args.row in
     let b = simp c.row_key.ensures at c.in_ok-commit.ensures.does in
     let none = none_declines (end_checks s k) (move_checks Open v (key_of k)) c.in_ok-may_end.ensures b.answers in
+    let runs = end_running s v k none in
     let is = other_rows c.args.self.now c.set_state.new.self _
-    (c.set_state.ensures.rows ∙ put_into s.rows k Running Committed (end_running s v k none) refl)
+    (c.set_state.ensures.rows ∙ put_into s.rows k Running Committed runs refl)
     c.set_state.ensures.rolled in
     record {
       kept = ∥∥₁_map c.args.self.now.kept
           (λ kept. subst Kept (sym is) (on_end (chart_of c.args.self.now) s v kept k none));
+      holds = subst (λ t. HasGraph t c.args.self.now.graph) (sym is)
+          (graph_put s c.args.self.now.graph k Committed (ap graph_state runs) c.args.self.now.holds (marked s.rows k Committed) refl);
     }

@@ -4,6 +4,7 @@ use Rattle.model.specs.Calls.{finish_fault}
 use Rattle.model.proofs.Accepted.{finish_free}
 use Rattle.sheet.proofs.Comings.{none_stands}
 use Rattle.sheet.specs.SheetOf.{sheet_of}
+use Rattle.sheet.proofs.Graphs.{graph_stays}
 use Rattle.sheet.proofs.Phases.{still_kept}
 use Rattle.sheet.proofs.sheets.Sheet.finish.Goals as goal
 
@@ -12,4 +13,8 @@ invariant_of-self c =
     let x = c.args.self.now in
     let number = c.args.ticket.number in
     let passed = simp c.number.ensures at c.in_default.ensures in
-    record { kept = still_kept (sheet_of x) Forward x.kept (λ o _. finish_free (sheet_of x) number o (none_stands (finish_fault (sheet_of x) number) passed)) }
+    record {
+      kept = still_kept (sheet_of x) Forward x.kept
+          (λ o _. finish_free (sheet_of x) number o (none_stands (finish_fault (sheet_of x) number) passed));
+      holds = graph_stays (sheet_of x) Forward x.graph x.holds;
+    }

@@ -4,9 +4,17 @@ use Rattle.model.specs.Sheet.{arrows_from}
 use Rattle.rowset.specs.Members.{contains}
 use Rattle.sheet.specs.Listings.{Puts}
 use Rattle.sheet.specs.SheetOf.{sheet_of}
+use Rattle.sheet.proofs.Graphs.{of_graph}
 use Rattle.sheet.proofs.Listing.{graph_by, graph_within, few_below}
 use Rattle.sheet.proofs.Puts.{puts_next, puts_end}
 use Rattle.sheet.proofs.sheets.Sheet.put_arrows.Goals as goal
+
+pub bounds-links-from : goal.bounds-links-from
+bounds-links-from c =
+    let x = c.args.self.now in
+    let n = c.in-Some.row in
+    let there = graph_within x n (sym (of_graph (sheet_of x) x.graph x.holds n) ∙ c.in-Some.ensures.1) in
+    omega (arith, c.from.ensures, there, x.table.few, x.table.rows.ok.0)
 
 pub put_arrows_from-next-requires-clause-room : goal.put_arrows_from-next-requires-clause-room
 put_arrows_from-next-requires-clause-room c =
@@ -15,7 +23,7 @@ put_arrows_from-next-requires-clause-room c =
       arith,
       c.loop-row.invariant.puts.place,
       c.loop-row.invariant.within,
-      few_below x (contains c.args.graph.now) (c.loop-row.last + 1),
+      few_below x (contains x.graph) (c.loop-row.last + 1),
       x.table.few,
       x.table.rows.ok.0,
     )
@@ -25,16 +33,16 @@ loop-row-preserved c =
     let x = c.args.self.now in
     let n = c.in-Some.row in
     record {
-      puts = puts_next (contains c.args.graph.now) (arrows_from (sheet_of x)) c.loop-row.invariant.puts c.in-Some.ensures
+      puts = puts_next (contains x.graph) (arrows_from (sheet_of x)) c.loop-row.invariant.puts c.in-Some.ensures
           c.put_arrows_from-next.ensures;
-      within = graph_within x n (sym (c.requires.graph n) ∙ c.in-Some.ensures.1);
+      within = graph_within x n (sym (of_graph (sheet_of x) x.graph x.holds n) ∙ c.in-Some.ensures.1);
     }
 
 pub returns : goal.returns
 returns c =
     let x = c.args.self.now in
-    let p : ℕ → Bool = contains c.args.graph.now in
+    let p : ℕ → Bool = contains x.graph in
     let n = (sheet_of x).rows.count + 1 in
     let All : List RowArrow → Type 0 = λ xs. Puts xs 0 c.args.table.now c.loop-row.next c.loop-row.table in
-    subst All (graph_by x p c.requires.graph)
+    subst All (graph_by x p (of_graph (sheet_of x) x.graph x.holds))
     (puts_end p (arrows_from (sheet_of x)) c.loop-row.invariant.puts n (omega arith) c.in_default.ensures)

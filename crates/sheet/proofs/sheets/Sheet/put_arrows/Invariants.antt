@@ -10,7 +10,7 @@ use Rattle.sheet.proofs.sheets.Sheet.put_arrows.Given as goal
 abbrev pub invariant-loop-row : goal.invariant-loop-row
 invariant-loop-row l =
     record {
-      puts : Puts (each_below (l.last + 1) (given (contains l.graph) (arrows_from (sheet_of l.self)))) 0
+      puts : Puts (each_below (l.last + 1) (given (contains l.self.graph) (arrows_from (sheet_of l.self)))) 0
           l.initial.table l.next l.table;
       within : l.last ≤ (sheet_of l.self).rows.count;
     }

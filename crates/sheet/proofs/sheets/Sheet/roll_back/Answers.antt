@@ -1,10 +1,14 @@
 -- The host drops what runs, and the rows fall that the abort strikes.
-use Rattle.std.proofs.Common.{◌≤◌, sym, subst, rules, arith}
+use Rattle.std.proofs.Common.{◌≤◌, sym, subst, ap, ◌∙◌, rules, arith}
 use Rattle.std.proofs.Math.Bridge.{le_prop}
 use mathlib.Core.Logic.{∥∥₁_elim, ∥∥₁_map}
 use Rattle.model.specs.Sheets.{Kept}
 use Rattle.model.proofs.Kept.{on_abort}
+use Rattle.values.specs.declared.RowState.TheVariants.{Due}
+use Rattle.model.specs.Rows.{in_state}
+use Rattle.sheet.specs.Graphs.{HasGraph}
 use Rattle.sheet.specs.SheetOf.{sheet_of, chart_of}
+use Rattle.sheet.proofs.Graphs.{graph_due}
 use Rattle.sheet.proofs.Rolling.{droppable, rolled_back}
 use Rattle.sheet.proofs.sheets.Sheet.roll_back.Goals as goal
 
@@ -27,6 +31,9 @@ invariant_of-self-2 g c =
     record {
       kept = ∥∥₁_map x.kept
           (λ kept. subst Kept (sym is) (on_abort (chart_of x) (sheet_of x) v kept c.args.mode 257 256 c.requires.may));
+      holds = subst (λ s. HasGraph s c.rows_in-self.result) (sym is)
+          (graph_due (chart_of x) (sheet_of x) v c.args.mode 257 256 c.rows_in-self.result x.kept c.requires.may
+          (λ k. c.rows_in-self.ensures k ∙ ap (λ s. in_state s.rows Due k) is));
     }
 
 pub returns-clause-sheet : goal.returns-clause-sheet

@@ -1,7 +1,7 @@
 -- A row is begun at the host, and added.
 use Rattle.std.proofs.Common.{◌+◌, Ok, refl, ap, ◌∙◌, rules}
 use Rattle.sheet.proofs.Comings.{own_declines, host_declines, both_accept}
-use Rattle.sheet.proofs.Starting.{start_own, start_asked, room, pushed, start_kept}
+use Rattle.sheet.proofs.Starting.{start_own, start_asked, room, pushed, start_kept, start_holds}
 use Rattle.sheet.proofs.sheets.Sheet.start.Goals as goal
 
 pub returns-in_err-may_start-clause-comes : goal.returns-in_err-may_start-clause-comes
@@ -22,6 +22,8 @@ invariant_of-self g c =
     let b = simp (c.row_key.ensures, c.len-row.ensures) at c.in_ok-begin.ensures.does in
     record {
       kept = start_kept c.args.self.now (g.X.Host.view c.args.host.now) c.args.step c.args.predecessors.now c.args.entry
+          c.in_ok-may_start.ensures b.answers c.push.new.self c.push.ensures.fits c.push.ensures.rows c.push.ensures.rolled;
+      holds = start_holds c.args.self.now (g.X.Host.view c.args.host.now) c.args.step c.args.predecessors.now c.args.entry
           c.in_ok-may_start.ensures b.answers c.push.new.self c.push.ensures.fits c.push.ensures.rows c.push.ensures.rolled;
     }
 

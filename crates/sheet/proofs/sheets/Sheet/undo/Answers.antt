@@ -1,18 +1,21 @@
 -- The memory first, then the checks of undo, and then those of the host.
-use Rattle.std.proofs.Common.{length, sym, refl, ◌∙◌, subst, rules}
+use Rattle.std.proofs.Common.{length, sym, ap, refl, ◌∙◌, subst, rules}
 use mathlib.Core.Logic.{∥∥₁_map}
 use Rattle.values.specs.declared.HostState.TheVariants.{Standing}
 use Rattle.values.specs.declared.RowState.TheVariants.{Due, Undone}
 use Rattle.host.specs.Keys.{key_of}
 use Rattle.host.specs.View.{move_checks}
 use Rattle.model.specs.Calls.{memory_check}
+use Rattle.model.specs.Rows.{marked}
 use Rattle.model.specs.Sheets.{Kept}
 use Rattle.model.proofs.Accepted.{undo_due}
 use Rattle.model.proofs.Kept.{on_undo}
+use Rattle.sheet.specs.Graphs.{HasGraph}
 use Rattle.sheet.specs.SheetOf.{sheet_of, chart_of}
 use Rattle.sheet.specs.Tickets.{undo_own_checks}
 use Rattle.sheet.proofs.Clearing.{left_cleared}
 use Rattle.sheet.proofs.Comings.{own_declines, host_declines, both_accept, passed_first, none_declines, other_rows, put_into}
+use Rattle.sheet.proofs.Graphs.{graph_state, graph_put}
 use Rattle.sheet.proofs.sheets.Sheet.undo.Goals as goal
 
 pub returns-in_err-may_undo-clause-comes : goal.returns-in_err-may_undo-clause-comes
@@ -43,12 +46,15 @@ invariant_of-self g c =
     let passes = simp c.number.ensures at c.in_ok-may_undo.ensures in
     let b = simp c.row_key.ensures at c.in_ok-undo.ensures.does in
     let none = none_declines (undo_own_checks s t k) (move_checks Standing v (key_of k)) passes.checks b.answers in
+    let due = undo_due s v t k 257 256 none in
     let is = other_rows c.args.self.now c.set_state.new.self _
-    (c.set_state.ensures.rows ∙ put_into s.rows k Due Undone (undo_due s v t k 257 256 none) refl)
+    (c.set_state.ensures.rows ∙ put_into s.rows k Due Undone due refl)
     c.set_state.ensures.rolled in
     record {
       kept = ∥∥₁_map c.args.self.now.kept
           (λ kept. subst Kept (sym is) (on_undo (chart_of c.args.self.now) s v kept t k 257 256 none));
+      holds = subst (λ u. HasGraph u c.args.self.now.graph) (sym is)
+          (graph_put s c.args.self.now.graph k Undone (ap graph_state due) c.args.self.now.holds (marked s.rows k Undone) refl);
     }
 
 pub returns-clause-comes : goal.returns-clause-comes
