@@ -1,7 +1,7 @@
 // What a row holds, by its number.
 ghost use Rattle.std.specs.Prelude.{◌≡◌, ◌≤◌, length, MatchOption};
 ghost use Rattle.rows.specs.Columns.{no_row, row_at};
-ghost use Rattle.rows.specs.Tables.{rows_of, rolled_of};
+ghost use Rattle.rows.specs.Tables.{rows_of};
 
 use super::RowTable;
 use crate::counted::numbered;
@@ -30,7 +30,7 @@ impl RowTable {
         numbered(&self.rows, number)
     }
 
-    // The model's columns are total: a number that is no row's has the state absent, step 0, an empty score and rollback 0.
+    // The model's columns are total: a number that is no row's has the state absent, step 0 and an empty score.
 
     /// A row's state; absent where there is no such row.
     pub fn state(&self, number: u16) -> RowState
@@ -51,13 +51,6 @@ impl RowTable {
         ensures { result ≡ (rows_of self.now).entry number }
     {
         self.get(number).map_or(NO_ENTRY, |row| row.entry)
-    }
-
-    /// The rollback that dropped or struck a row; 0 if none did.
-    pub fn rolled(&self, number: u16) -> u16
-        ensures { result ≡ rolled_of self.now number }
-    {
-        self.get(number).map_or(0, |row| row.rolled)
     }
 
     /// The rows that a row follows by one arrow; none where there is no such row.
