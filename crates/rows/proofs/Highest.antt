@@ -1,9 +1,11 @@
 -- The highest rows, where a row is added. Assumes nothing.
-use Rattle.std.proofs.Common.{◌≡◌, ℕ, zero, suc, ◌+◌, ◌<◌, ◌≤◌, false, not, ◌&&◌, ◌||◌, eqb, leb, ltb, List, [], length, add-one, refl, ap, ap₂, ◌∙◌, inl, inr, arith}
-use Rattle.std.proofs.lemmas.Bool.{and_left, cases_eq, cases_lt, eq-eqb, ne_eqb, le-ltb, lt-ltb}
+use Rattle.std.proofs.Common.{◌≡◌, ℕ, zero, suc, ◌+◌, ◌<◌, ◌≤◌, true, false, not, ◌&&◌, ◌||◌, eqb, leb, ltb, List, [], length, add-one, refl, sym, ap, ap₂, ◌∙◌, inl, inr, arith}
+use borrow.Author.Tests.{clash}
+use Rattle.std.proofs.lemmas.Bool.{and_from, and_left, and_parts, cases_eq, cases_lt, eq-eqb, ne_eqb, leb-true, le-ltb, lt-ltb, not-true}
 use Rattle.std.proofs.lemmas.Bool.Decides.{nat_tests}
-use Rattle.model.specs.Search.{at_put}
-use Rattle.model.proofs.Basics.{put_same, put_other}
+use Rattle.model.specs.Rows.{Rows}
+use Rattle.model.specs.Search.{any_below, at_put}
+use Rattle.model.proofs.Basics.{any_below_in, put_same, put_other}
 use Rattle.rowset.specs.declared.RowSet.{RowSet}
 use Rattle.rowset.specs.Members.{is_number, contains}
 use Rattle.rowset.proofs.Members.{within_numbers}
@@ -67,3 +69,21 @@ module _ (rows new : List Row) (s : ℕ) (few : length rows < 256) (long : lengt
 
 pub none_highest : (set : RowSet) (rows : List Row) → rows ≡ [] → ((k : ℕ) → contains set k ≡ false) → HasHighest set rows
 none_highest set rows e none k = let size : length rows ≡ 0 = ap length e in none k ∙ (grind (arith, nat_tests))
+
+-- a step has one highest row
+higher_than_it : (r : Rows) (a b : ℕ) → is_highest r a ≡ true → is_highest r b ≡ true → r.step b ≡ r.step a → a < b → ⊥
+higher_than_it r a b high other same above =
+    let (low, last) = and_parts (leb 1 b) (leb b r.count) (and_parts _ _ other).0 in
+    let inside : b < r.count + 1 = (let l = leb-true b r.count last in omega arith) in
+    let passes = and_from (ltb a b) (eqb (r.step b) (r.step a)) (lt-ltb a b above) (eq-eqb _ _ same) in
+    let there = any_below_in (r.count + 1) (λ j. ltb a j && eqb (r.step j) (r.step a)) b inside passes in
+    clash (sym (not-true _ (and_parts _ _ high).1) ∙ there)
+
+pub one_highest : (r : Rows) (a b : ℕ) → is_highest r a ≡ true → is_highest r b ≡ true → r.step a ≡ r.step b → a ≡ b
+one_highest r a b high other same = elim (cases_eq a b) [
+  | inl e ↦ e
+  | inr ne ↦ elim (cases_lt a b) [
+    | inl l ↦ absurd (higher_than_it r a b high other (sym same) l)
+    | inr l ↦ absurd (higher_than_it r b a other high same (omega arith))
+  ]
+]

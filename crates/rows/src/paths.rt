@@ -94,22 +94,21 @@ impl RowTable {
         wanted
     }
 
-    /// Of some rows, those that are linked to each of them, by its number. What else the sets have is of no meaning.
+    /// Writes, of some rows, those that are linked to each of them, by its number. What else the sets have afterwards is of no
+    /// meaning.
     // what is linked to rows that are passed over is found too: links lead through them
-    pub fn links(&self, rows: &RowSet) -> [RowSet; 257]
+    pub fn write_links(&self, rows: &RowSet, links: &mut [RowSet; 257])
         ensures { (v : ℕ) → contains rows.now v ≡ true
-            → LinksAmong (rows_of self.now) rows.now v (links_at result v) }
+            → LinksAmong (rows_of self.now) rows.now v (links_at links.new v) }
     {
-        let mut links = [RowSet::new(); 257];
         let Some(least) = rows.next_above(0) else {
-            return links;
+            return;
         };
         let wanted = self.with_passed(rows);
         let mut last = least - 1;
         while let Some(row) = wanted.next_above(last) {
-            links[row as usize] = self.links_of(row, least, &links);
+            links[row as usize] = self.links_of(row, least, links);
             last = row;
         }
-        links
     }
 }

@@ -134,6 +134,8 @@ where
         ensures process { process_of self.new ≡ process_of self.old }
     {
         let mut taken = Vec::new(heap);
+        // places for all of them at once, where there is so much memory; if there is not, each takes its own
+        taken.reserve(events.len()).ok();
         for event in events {
             if let Err(error) = self.take_into(heap, event, &mut taken) {
                 return Replayed {

@@ -193,7 +193,8 @@ impl Sheet {
         ensures loans { SameLoans scratch.old scratch.new }
     {
         self.wants_graph()?;
-        let links = self.table.links(&self.graph);
+        let mut links = [RowSet::new(); 257];
+        self.table.write_links(&self.graph, &mut links);
         let points = self.points(scratch);
         // both are counted first: a declined listing leaves both tables as they were
         let arrow_count = self.put_arrows(&links, &mut []);

@@ -1,13 +1,27 @@
-use Rattle.std.proofs.Common.{not, eqb, ap, arith}
-use Rattle.rowset.specs.Members.{contains}
+use Rattle.std.proofs.Common.{◌≡◌, ℕ, false, eqb, sym, ap, ◌∙◌, inl, inr, arith}
+use Rattle.std.proofs.lemmas.Bool.{cases_Bool, cases_eq, eq-eqb, eqb-true, ne_eqb}
 use Rattle.rows.specs.Highest.{is_highest}
 use Rattle.rows.specs.Tables.{rows_of}
-use Rattle.rows.proofs.Members.{kept_more}
+use Rattle.rows.proofs.Highest.{one_highest}
 use Rattle.rows.proofs.table.RowTable.highest_of_others.Goals as goal
 
-pub loop-row-preserved : goal.loop-row-preserved
-loop-row-preserved c =
+pub returns-in-Some : goal.returns-in-Some
+returns-in-Some c = λ k.
     let r = rows_of c.args.self.now in
-    kept_more c.highest-highest.result (omega arith) (is_highest r) (λ k. not (eqb (r.step k) c.args.step)) c.highest-highest.ensures
-    c.loop-row.last c.in-Some.row c.in-Some.ensures _ (ap (λ s. not (eqb s c.args.step)) c.step.ensures)
-    (contains c.loop-row.others) (contains c.put.new.self) c.loop-row.invariant c.put.ensures
+    let s = c.args.step in
+    let row = c.in-Some.row in
+    let (there, same) = c.in-Some.ensures in
+    let without = c.remove.ensures k in
+    let was = c.highest-others.ensures k in
+    elim (cases_eq k row) [
+      | inl e ↦
+          let at = eq-eqb k row e in
+          let step = eq-eqb (r.step k) s (ap r.step e ∙ same) in grind arith
+      | inr ne ↦ let other = ne_eqb k row ne in elim (cases_Bool (is_highest r k)) [
+        | inr no_highest ↦ grind arith
+        | inl highest ↦
+            let another : eqb (r.step k) s ≡ false =
+            ne_eqb (r.step k) s (λ e. ne (one_highest r k row highest there (e ∙ sym same))) in
+            grind arith
+      ]
+    ]

@@ -6,9 +6,9 @@ use Rattle.sheet.proofs.replay.Competition.replay.Goals as goal
 
 pub loop-event-init : goal.loop-event-init
 loop-event-init g c = (
-  gone_first _ _ c.args.events.now c.new-taken.result.items c.new-taken.ensures.items,
+  gone_first _ _ c.args.events.now c.reserve.new.self.items (c.reserve.ensures.items ∙ c.new-taken.ensures.items),
   refl,
-  along_first g.X.Host.view g.X.Host.switches g.X.Controls.leaves c.args.self.now.host c.args.events.now c.new-taken.result.items c.new-taken.ensures.items,
+  along_first g.X.Host.view g.X.Host.switches g.X.Controls.leaves c.args.self.now.host c.args.events.now c.reserve.new.self.items (c.reserve.ensures.items ∙ c.new-taken.ensures.items),
 )
 
 pub loop-event-preserved : goal.loop-event-preserved

@@ -2,7 +2,7 @@ use Rattle.std.proofs.Common.{◌≡◌, ℕ, ◌≤◌, ◌-◌, true, length}
 use Rattle.rowset.specs.Members.{contains}
 use Rattle.rows.specs.Linked.{links_at, HasLinks}
 use Rattle.rows.specs.Tables.{rows_of}
-use Rattle.rows.proofs.table.RowTable.links.Given as goal
+use Rattle.rows.proofs.table.RowTable.write_links.Given as goal
 
 abbrev pub invariant-loop-row : goal.invariant-loop-row
 invariant-loop-row l =

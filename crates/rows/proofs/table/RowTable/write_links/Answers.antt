@@ -10,7 +10,7 @@ use Rattle.rowset.specs.Members.{contains}
 use Rattle.rows.proofs.Members.{member_number}
 use Rattle.rows.specs.Tables.{rows_of}
 use Rattle.rows.proofs.LinkSets.{known_below, known_more}
-use Rattle.rows.proofs.table.RowTable.links.Goals as goal
+use Rattle.rows.proofs.table.RowTable.write_links.Goals as goal
 
 pub links_of-requires : goal.links_of-requires
 links_of-requires c = λ q from l passed.
