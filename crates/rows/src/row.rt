@@ -12,7 +12,8 @@ pub struct Row {
     pub predecessors: ArrayVec<u16, 8>,
     pub entry: Entry,
     pub state: RowState,
-    // The model's column has 0 where no rollback did; an Option would be turned into that wherever it is read.
+    // The model's column has 0 where no rollback did. Contracts alone read it: what a listing wants to know of it, the sheet
+    // keeps as a set.
     pub rolled: u16,
 }
 
