@@ -1,14 +1,17 @@
 -- A journal's calls played from its settings: what is printed of each, and what is left in the end. It is a function of the
 -- journal alone. Assumes nothing.
 use Rattle.std.specs.Prelude.{ℕ, ◌+◌, ◌<◌, ◌≤◌, ◌^◌, Bool, true, false, cond, List, [], ◌++◌, take, drop, fold, codes}
+use Rattle.std.specs.List.{zip}
 use Rattle.values.specs.declared.Answer.{Answer}
 use Rattle.values.specs.declared.Answer.TheVariants.{Row, Done, Ticket, Listed, Declined}
 use Rattle.model.specs.Book.{accepted}
 use Rattle.model.specs.Chart.{Chart}
 use Rattle.model.specs.Run as run
 use Rattle.sheet.specs.Lent.{zeros}
+use Rattle.sheet.specs.declared.events.Event.{Event}
 use Rattle.sheet.specs.declared.events.Sizes.{Sizes}
-use Rattle.journal.specs.Calls.{Command, Call, start, end, abort, undo, finish, park, resume, listing, reply, lend, control, call_text}
+use Rattle.sheet.specs.declared.events.Taken.{Taken}
+use Rattle.journal.specs.Calls.{Command, Call, start, end, abort, undo, finish, park, resume, listing, reply, lend, control, call_of, call_text}
 use Rattle.journal.specs.Hosts.{Switches, all_on, commanded, are_shut, opening_hosts}
 use Rattle.journal.specs.Spelled.{row_text, ticket_text, listed_text, hex_text, declined_text, text_line}
 use Rattle.journal.specs.declared.summary.CallCounts.{CallCounts}
@@ -57,6 +60,18 @@ abbrev pub counted : Part → Bool → CallCounts → CallCounts
 counted called accepted n = record { all = n.all + 1; accepted = n.accepted + cond accepted 1 0; declined = n.declined + cond accepted 0 1 }
 counted lent accepted n = n
 counted (commands command) accepted n = n
+
+-- no calls yet
+abbrev pub no_calls : CallCounts
+no_calls = record { all = 0; accepted = 0; declined = 0 }
+
+-- the numbers of calls with one event more, by what was told of it
+abbrev pub counted_event : CallCounts → Event Command × Taken → CallCounts
+counted_event n (e, t) = counted (part_of (call_of e)) (accepted t.answer) n
+
+-- the numbers of the calls among events, as far as it was told of them
+abbrev pub counts_along : List (Event Command) → List Taken → CallCounts
+counts_along es ts = fold counted_event no_calls (zip es ts)
 
 abbrev pub is_called : Part → Bool
 is_called called = true
@@ -130,5 +145,5 @@ unplayed serial scores ledger before = record {
   world = run.opening serial (opening_hosts scores ledger) (zeros first_sizes);
   switches = all_on;
   printed = before;
-  calls = record { all = 0; accepted = 0; declined = 0 };
+  calls = no_calls;
 }

@@ -4,7 +4,7 @@ ghost use Rattle.process.specs.Accepted.{tables_of};
 ghost use Rattle.model.specs.Book.{accepted as is_accepted};
 ghost use Rattle.sheet.specs.Lent.{lent_of};
 ghost use Rattle.journal.specs.Calls.{call_of, call_text, line_read};
-ghost use Rattle.journal.specs.Played.{Fits, part_of, is_called, counted, told_text, told_line, play_one, play, unplayed};
+ghost use Rattle.journal.specs.Played.{Fits, part_of, is_called, counted, counts_along, told_text, told_line, play_one, play, unplayed};
 ghost use Rattle.journal.specs.Names.{texts};
 ghost use Rattle.journal.specs.Outcomes.{process_line};
 ghost use Rattle.journal.specs.Playing.{played_of, process_of};
@@ -18,7 +18,7 @@ use crate::hosts::{Hosts, new_hosts};
 use crate::outcomes::{Outcome, process_line};
 use crate::summary::{CallCounts, Summary};
 use process::Process;
-use sheet::{Competition, Event, Memory, Sheet, Sizes};
+use sheet::{Competition, Event, Memory, Sheet, Sizes, Taken};
 use std::alloc::{AllocError, Global};
 use values::Answer as Given;
 
@@ -111,6 +111,17 @@ impl CallCounts {
         } else {
             self.declined += 1;
         }
+    }
+
+    /// The calls among these events, by what was told of each, as far as both lists go.
+    pub fn of(events: &[HostEvent], taken: &[Taken]) -> CallCounts
+        ensures { result ≡ counts_along events.now taken.now }
+    {
+        let mut calls = CallCounts::default();
+        for (event, one) in events.iter().zip(taken) {
+            calls.add(event, one.answer);
+        }
+        calls
     }
 }
 

@@ -6,10 +6,10 @@ use journal::{
 };
 use process::tables::Tables;
 use process::{COLUMN, LINE, Process};
-use sheet::{Competition, Event, Memory, Sheet, Taken};
+use sheet::{Competition, Memory, Sheet};
 use std::process::ExitCode;
 use std::time::{Duration, Instant};
-use values::{Answer, Fault};
+use values::Fault;
 
 // What a journal replays, again and again.
 #[derive(Drop)]
@@ -33,26 +33,6 @@ fn process_of(rt: &HostRuntime, stored: &[u8]) -> anyhow::Result<Result<Process,
     let mut column = [0; COLUMN];
     let mut line = [0; LINE];
     Ok(process::read(stored, tables, &mut column, &mut line))
-}
-
-fn is_call(event: &HostEvent) -> bool {
-    !matches!(event, Event::Lend { .. } | Event::Control { .. })
-}
-
-// How many calls there were, and what became of them.
-fn counts(events: &[HostEvent], taken: &[Taken]) -> CallCounts {
-    let mut calls = CallCounts::default();
-    for (event, one) in events.iter().zip(taken) {
-        if !is_call(event) {
-            continue;
-        }
-        calls.all = calls.all.saturating_add(1);
-        match one.answer {
-            Answer::Declined(_) => calls.declined = calls.declined.saturating_add(1),
-            _ => calls.accepted = calls.accepted.saturating_add(1),
-        }
-    }
-    calls
 }
 
 impl Course {
@@ -101,7 +81,7 @@ impl Course {
         if let Some(error) = replayed.stopped {
             return Err(error.into());
         }
-        let calls = counts(&self.events, &replayed.taken);
+        let calls = CallCounts::of(&self.events, &replayed.taken);
         let names = step_names(rt.alloc(), &self.stored, steps + 1)?;
         let balance = treasurer.then(|| competition.host().first().inner().balance());
         let summary = Summary::of(rt.alloc(), calls, competition.sheet(), names, balance)?;
