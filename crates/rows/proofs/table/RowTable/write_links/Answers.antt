@@ -3,11 +3,10 @@ use Rattle.std.proofs.Common.{◌≡◌, ℕ, ◌<◌, ◌≤◌, true, length, 
 use borrow.Author.Tests.{clash}
 use Rattle.std.proofs.lemmas.Bool.{cases_eq, cases_lt, or_left, or_right}
 use Rattle.std.proofs.lemmas.List.{length-set}
-use Rattle.std.proofs.lemmas.Bool.Decides.{nat_tests}
 use Rattle.graph.specs.Reach.{Least}
 use Rattle.rowset.specs.declared.RowSet.{RowSet}
 use Rattle.rowset.specs.Members.{contains}
-use Rattle.rows.proofs.Members.{member_number}
+use Rattle.rowset.proofs.Loops.{member_within}
 use Rattle.rows.specs.Tables.{rows_of}
 use Rattle.rows.proofs.LinkSets.{known_below, known_more}
 use Rattle.rows.proofs.table.RowTable.write_links.Goals as goal
@@ -19,7 +18,7 @@ links_of-requires c = λ q from l passed.
     c.loop-row.invariant.known q from l wanted
 
 row_within : (s : RowSet) → length s.words ≡ 4 → (k : ℕ) → contains s k ≡ true → k < 257
-row_within s long k m = let n = member_number s long k m in grind (arith, nat_tests)
+row_within s long k m = let n = member_within s long k m in omega arith
 
 pub bounds-links-row : goal.bounds-links-row
 bounds-links-row c = row_within c.with_passed-wanted.result (omega arith) c.in-Some-next_above.row c.in-Some-next_above.ensures.1
