@@ -1,5 +1,5 @@
 -- Some of the members of a set, counted up from the lowest. Assumes nothing.
-use Rattle.std.proofs.Common.{◌≡◌, ℕ, suc, ◌+◌, ◌<◌, Bool, true, false, ◌&&◌, ◌||◌, Some, None, add-one, sym, inl, inr, arith}
+use Rattle.std.proofs.Common.{◌≡◌, ℕ, suc, ◌+◌, ◌<◌, Bool, true, false, ◌&&◌, ◌||◌, Some, None, add-one, sym, ap, ◌∙◌, inl, inr, arith}
 use Rattle.std.proofs.lemmas.Bool.{and_left, and_right, cases_lt, both_ways}
 use Rattle.graph.specs.Reach.{Least}
 use Rattle.rowset.proofs.Loops.{unchanged, to_next, to_end}
@@ -22,7 +22,7 @@ module _ (member test : ℕ → Bool) where
   some_more last row next =
       let same = to_next some_to member no_member next in
       let here = next.1 in
-      rw add-one (grind arith)
+      ap some_to (add-one row) ∙ (grind arith)
 
   -- after the last, where none above n passes
   pub some_all : (last n : ℕ) → Least (λ k. member k ≡ true) last None → ((k : ℕ) → n < k → test k ≡ false)

@@ -35,9 +35,10 @@ loop-k-preserved c =
     let k = c.in-Some.k in
     let mark : marked xs k ≡ false = ap (marked xs) (sym c.from.ensures) ∙ sym c.if-is_set.ensures in
     let fails = and_right (ltb row k) _ (and_right (in_state r Due k) _ mark) in
+    let due = c.rows_in-due.result in
     record {
       high = omega (arith, c.loop-k.invariant.high, c.in-Some.ensures.0);
-      none = with_next (contains c.rows_in-due.result) (Fails r row xs) (due_only r row xs c.rows_in-due.result c.rows_in-due.ensures)
+      none = with_next (contains due) (Fails r row xs) (due_only r row xs due c.rows_in-due.ensures)
           c.loop-k.invariant.none c.in-Some.ensures fails;
     }
 
