@@ -1,58 +1,19 @@
 -- The rows after an abort, taken back one after another. Assumes nothing.
-use Rattle.std.proofs.Common.{◌≡◌, ℕ, ◌+◌, ◌<◌, ◌≤◌, Bool, true, false, cond, ◌&&◌, ◌||◌, eqb, ltb, Some, None, sym, refl, ap, ap₂, ◌∙◌, inl, inr, arith}
+use Rattle.std.proofs.Common.{◌≡◌, ℕ, Bool, true, false, cond, ◌&&◌, ◌||◌, eqb, Some, None, sym, refl, ap, ap₂, ◌∙◌, inl, inr, arith}
 use mathlib.Core.Path.{fun_ext}
 use borrow.Author.Tests.{clash}
-use Rattle.std.proofs.lemmas.Bool.{cases_Bool, cases_eq, cases_lt, eq-eqb, ne_eqb, lt-ltb, le-ltb, false_from_ne_true}
+use Rattle.std.proofs.lemmas.Bool.{cases_Bool, cases_eq, eq-eqb, ne_eqb}
 use Rattle.std.proofs.lemmas.Bool.Decides.{nat_tests}
 use Rattle.values.specs.declared.RowState.{RowState}
 use Rattle.values.specs.declared.RowState.TheVariants.{Absent, Running, Committed, Dropped, Due, Undone, PassedOver}
 use Rattle.values.specs.Numbers.{same_state}
 use Rattle.graph.specs.Reach.{Least}
+use Rattle.rowset.proofs.Loops.{up_to, above, up_to_next, up_to_end}
 use Rattle.model.specs.Chart.{Chart}
 use Rattle.model.specs.Rollback.{fallen}
 use Rattle.model.specs.Rows.{Rows, in_state, idle, live, marked, with_states}
 use Rattle.model.specs.Search.{at_put}
 use Rattle.model.proofs.Basics.{same_state_eq}
-
--- ── a column changed up to a number ──
-
-module _ {X : Type 0} (f g : ℕ → X) where
-  -- f up to `last`, and g above it
-  abbrev pub up_to : ℕ → ℕ → X
-  up_to last k = cond (ltb k (last + 1)) (f k) (g k)
-
-  within : (last k : ℕ) → k ≤ last → up_to last k ≡ f k
-  within last k l = ap (λ b. cond b (f k) (g k)) (lt-ltb k (last + 1) (omega arith))
-
-  pub above : (last k : ℕ) → last < k → up_to last k ≡ g k
-  above last k l = ap (λ b. cond b (f k) (g k)) (le-ltb k (last + 1) (omega arith))
-
-  pub up_to_none : f 0 ≡ g 0 → g ≡ up_to 0
-  up_to_none same = fun_ext (λ k. elim (cases_eq k 0) [
-    | inl e ↦ ap g e ∙ sym same ∙ ap f (sym e) ∙ sym (within 0 k (omega arith))
-    | inr ne ↦ sym (above 0 k (omega arith))
-  ])
-
-  -- where they say the same between
-  pub up_to_more : (last t : ℕ) → last < t → ((k : ℕ) → last < k → k < t → f k ≡ g k)
-      → (h : ℕ → X) → h t ≡ f t → (λ k. cond (eqb k t) (h k) (up_to last k)) ≡ up_to t
-  up_to_more last t high same h is = fun_ext (λ k. elim (cases_eq k t) [
-    | inl e ↦
-        ap (λ b. cond b (h k) (up_to last k)) (eq-eqb k t e) ∙ ap h e ∙ is ∙ ap f (sym e) ∙ sym (within t k (omega arith))
-    | inr ne ↦ ap (λ b. cond b (h k) (up_to last k)) (ne_eqb k t ne) ∙ elim (cases_lt last k) [
-      | inr low ↦ within last k low ∙ sym (within t k (omega arith))
-      | inl up ↦ above last k up ∙ elim (cases_lt k t) [
-        | inl between ↦ sym (same k up between) ∙ sym (within t k (omega arith))
-        | inr past ↦ sym (above t k (omega arith))
-      ]
-    ]
-  ])
-
-  pub up_to_all : (last : ℕ) → ((k : ℕ) → last < k → f k ≡ g k) → up_to last ≡ f
-  up_to_all last same = fun_ext (λ k. elim (cases_lt last k) [
-    | inr low ↦ within last k low
-    | inl up ↦ above last k up ∙ sym (same k up)
-  ])
 
 -- two tests in one
 nested : (a b : Bool) (x y : ℕ) → cond (a && b) x y ≡ cond a (cond b x y) y
@@ -166,11 +127,9 @@ module _ (c : Chart) (r : Rows) (struck : ℕ → Bool) (number : ℕ) (rolled :
 
     pub states_more : (λ k. cond (eqb k t) (fallen (now k) true (idle c r k)) (now k)) ≡ up_to states_after r.state t
     states_more =
-        up_to_more states_after r.state last t next.0
-        (λ k l u. state_stays k (false_from_ne_true _ (next.2 k l u)))
-        (λ k. fallen (now k) true (idle c r k))
+        fun_ext (up_to_next states_after r.state falling state_stays next (λ k. fallen (now k) true (idle c r k))
         (ap (λ st. fallen st true (idle c r t)) (above states_after r.state last t next.0)
-        ∙ fallen_any (r.state t) (taken t) (idle c r t) (struck_if t next.1))
+        ∙ fallen_any (r.state t) (taken t) (idle c r t) (struck_if t next.1)))
 
     -- it is dropped or struck exactly if it is live
     live_falls : live (r.state t) ≡ (in_state r Running t || taken t)
@@ -179,17 +138,23 @@ module _ (c : Chart) (r : Rows) (struck : ℕ → Bool) (number : ℕ) (rolled :
       | inr other ↦ grind arith
     ]
 
-    pub rolled_more : (λ k. cond (eqb k t && live (now k)) number (up_to rolled_after rolled last k)) ≡ up_to rolled_after rolled t
+    abbrev rolled_now : ℕ → ℕ
+    rolled_now = up_to rolled_after rolled last
+
+    pub rolled_more : (λ k. cond (eqb k t && live (now k)) number (rolled_now k)) ≡ up_to rolled_after rolled t
     rolled_more =
-        fun_ext (λ k. nested (eqb k t) (live (now k)) number (up_to rolled_after rolled last k))
-        ∙ up_to_more rolled_after rolled last t next.0 (λ k l u. rolled_stays k (false_from_ne_true _ (next.2 k l u)))
-        (λ k. cond (live (now k)) number (up_to rolled_after rolled last k))
-        (ap₂ (λ st n. cond (live st) number n) (above states_after r.state last t next.0) (above rolled_after rolled last t next.0)
-        ∙ ap (λ b. cond b number (rolled t)) live_falls)
+        fun_ext (λ k. nested (eqb k t) (live (now k)) number (rolled_now k)
+        ∙ up_to_next rolled_after rolled falling rolled_stays next (λ j. cond (live (now j)) number (rolled_now j)) here k)
+      where
+        here : cond (live (now t)) number (rolled_now t) ≡ rolled_after t
+        here =
+            ap₂ (λ st n. cond (live st) number n) (above states_after r.state last t next.0)
+            (above rolled_after rolled last t next.0)
+            ∙ ap (λ b. cond b number (rolled t)) live_falls
 
   module _ (last : ℕ) (past : Least (λ k. falling k ≡ true) last None) where
     pub states_all : up_to states_after r.state last ≡ states_after
-    states_all = up_to_all states_after r.state last (λ k l. state_stays k (false_from_ne_true _ (past k l)))
+    states_all = fun_ext (up_to_end states_after r.state falling state_stays past)
 
     pub rolled_all : up_to rolled_after rolled last ≡ rolled_after
-    rolled_all = up_to_all rolled_after rolled last (λ k l. rolled_stays k (false_from_ne_true _ (past k l)))
+    rolled_all = fun_ext (up_to_end rolled_after rolled falling rolled_stays past)

@@ -4,7 +4,7 @@ use borrow.Author.Tests.{clash}
 use Rattle.std.proofs.lemmas.Bool.{and_from, and_left, and_parts, cases_eq, cases_lt, eq-eqb, ne_eqb, leb-true, le-ltb, lt-ltb, not-true}
 use Rattle.std.proofs.lemmas.Bool.Decides.{nat_tests}
 use Rattle.model.specs.Rows.{Rows}
-use Rattle.model.specs.Search.{any_below, at_put}
+use Rattle.model.specs.Search.{at_put}
 use Rattle.model.proofs.Basics.{any_below_in, put_same, put_other}
 use Rattle.rowset.specs.declared.RowSet.{RowSet}
 use Rattle.rowset.specs.Members.{is_number, contains}

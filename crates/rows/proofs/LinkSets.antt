@@ -1,6 +1,6 @@
 -- The sets of the rows that are linked to each row. Assumes nothing.
 use Rattle.std.proofs.Common.{◌≡◌, ℕ, ◌<◌, ◌≤◌, Bool, true, eqb, List, length, Some, get_or, set, sym, refl, ap, ◌∙◌, inl, inr, arith}
-use Rattle.std.proofs.lemmas.Bool.{cases_eq, cases_lt, eq-eqb}
+use Rattle.std.proofs.lemmas.Bool.{both_ways, cases_eq, eq-eqb}
 use Rattle.std.proofs.lemmas.List.{get_or-set_same, get_or-set_other}
 use Rattle.graph.specs.Reach.{Least}
 use Rattle.model.specs.Rollback.{linked}
@@ -8,6 +8,7 @@ use Rattle.model.specs.Rows.{Rows}
 use Rattle.model.specs.Search.{has}
 use Rattle.rowset.specs.declared.RowSet.{RowSet}
 use Rattle.rowset.specs.Members.{contains}
+use Rattle.rowset.proofs.Loops.{below_next}
 use Rattle.rows.specs.States.{no_set}
 use Rattle.rows.specs.Linked.{links_at, HasLinks}
 use Rattle.rows.proofs.Lists.{any_found}
@@ -21,10 +22,9 @@ module _ (r : Rows) (least : ℕ) (sets : List RowSet) (wanted : ℕ → Bool) (
     (next : Least (λ k. wanted k ≡ true) last (Some t))
     (known : (q : ℕ) → least ≤ q → q ≤ last → wanted q ≡ true → HasLinks r least q (links_at sets q)) where
   pub known_below : (q : ℕ) → least ≤ q → q < t → wanted q ≡ true → HasLinks r least q (links_at sets q)
-  known_below q from l w = elim (cases_lt last q) [
-    | inl high ↦ absurd (next.2 q high l w)
-    | inr low ↦ known q from low w
-  ]
+  known_below q from l =
+      below_next wanted (λ k. least ≤ k → wanted k ≡ true → HasLinks r least k (links_at sets k))
+      (λ k out from w. absurd (both_ways (wanted k) out w)) (λ k low from. known k from low) next q l from
 
   pub known_more : (x : RowSet) → t < length sets → HasLinks r least t x
       → (q : ℕ) → least ≤ q → q ≤ t → wanted q ≡ true → HasLinks r least q (links_at (set sets t x) q)

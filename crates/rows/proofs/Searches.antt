@@ -1,7 +1,7 @@
 -- What the least member of a set tells of searches among a table's rows. Assumes nothing.
 use Rattle.std.proofs.Common.{◌≡◌, ℕ, ◌+◌, ◌<◌, ◌≤◌, Bool, true, false, not, ◌&&◌, ltb, List, length, Some, None, Option, sym, ap, ◌∙◌, inl, inr, arith}
 use Rattle.std.specs.Option.{is_some}
-use Rattle.std.proofs.lemmas.Bool.{and_left, and_parts, cases_eq, cases_lt, false_from_ne_true, lt-ltb, le-ltb}
+use Rattle.std.proofs.lemmas.Bool.{and_left, and_parts, cases_lt, false_from_ne_true, lt-ltb, le-ltb}
 use Rattle.std.proofs.lemmas.Bool.Decides.{nat_tests}
 use Rattle.values.specs.declared.RowState.{RowState}
 use Rattle.values.specs.declared.RowState.TheVariants.{Absent, Due}
@@ -74,27 +74,3 @@ due_above_is rows row o h = some_above (length rows + 1) row due (λ k. ltb row 
   where
     due : ℕ → Bool
     due k = in_state (columns rows) Due k
-
--- ── a search that goes from member to member ──
-
-module _ (p q : ℕ → Bool) (only : (k : ℕ) → p k ≡ false → q k ≡ false) (after : ℕ) (none : (k : ℕ) → k ≤ after → q k ≡ false) where
-  -- none before the next member
-  pub none_below : (t : ℕ) → Least (λ k. p k ≡ true) after (Some t) → (k : ℕ) → k < t → q k ≡ false
-  none_below t next k l = elim (cases_lt after k) [
-    | inr low ↦ none k low
-    | inl h ↦ only k (false_from_ne_true _ (next.2 k h l))
-  ]
-
-  -- nor up to it, where it fails
-  pub none_more : (t : ℕ) → Least (λ k. p k ≡ true) after (Some t) → q t ≡ false → (k : ℕ) → k ≤ t → q k ≡ false
-  none_more t next fails k l = elim (cases_eq k t) [
-    | inl e ↦ ap q e ∙ fails
-    | inr ne ↦ none_below t next k (omega arith)
-  ]
-
-  -- and none at all where there is no next member
-  pub none_left : Least (λ k. p k ≡ true) after None → (k : ℕ) → q k ≡ false
-  none_left past k = elim (cases_lt after k) [
-    | inr low ↦ none k low
-    | inl h ↦ only k (false_from_ne_true _ (past k h))
-  ]

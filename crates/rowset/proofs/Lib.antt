@@ -1,3 +1,4 @@
 pub mod Arrays
 pub mod Bits
+pub mod Loops
 pub mod Members

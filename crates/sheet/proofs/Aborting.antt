@@ -1,5 +1,5 @@
 -- Running rows dropped at the host, and the rows that fall. Assumes nothing.
-use Rattle.std.proofs.Common.{◌≡◌, ℕ, suc, ◌+◌, ◌<◌, ◌≤◌, Bool, true, false, cond, not, ◌&&◌, [], ◌∷◌, None, Option, sym, ap, ◌∙◌, ap₂, add-one, arith}
+use Rattle.std.proofs.Common.{◌≡◌, ℕ, suc, ◌+◌, ◌<◌, ◌≤◌, Bool, true, false, cond, not, ◌&&◌, [], ◌∷◌, Some, None, Option, sym, ap, ◌∙◌, ap₂, add-one, arith}
 use Rattle.std.proofs.lemmas.Bool.{le-ltb}
 use Rattle.values.specs.Checks.{first_fault, bad, after}
 use Rattle.values.specs.declared.Cause.TheVariants.{ShutHost, OtherState}
@@ -17,7 +17,8 @@ use Rattle.model.proofs.Hosts.{dropped_view}
 use Rattle.rows.specs.declared.table.RowTable.{RowTable}
 use Rattle.rows.specs.Tables.{rows_of}
 use Rattle.rows.proofs.Columns.{known_within}
-use Rattle.sheet.proofs.Members.{IsNext, NoneAbove, to_next, to_end}
+use Rattle.graph.specs.Reach.{Least}
+use Rattle.rowset.proofs.Loops.{to_next, to_end}
 
 -- rows from n on are at the host as they were
 still_there : (runs : ℕ → Bool) (n : ℕ) (v : View) → (dropped_below runs n v).state n ≡ v.state n
@@ -52,13 +53,13 @@ module _ (runs member : ℕ → Bool) (is : (k : ℕ) → member k ≡ runs k) (
   dropped_none k out =
       ap (λ b. cond b (moved Void (dropped_below runs k v) (key_of k)) (dropped_below runs k v)) (sym (is k) ∙ out)
 
-  pub dropped_to : {last k : ℕ} {x : View} → IsNext member last k
+  pub dropped_to : {last k : ℕ} {x : View} → Least (λ j. member j ≡ true) last (Some k)
       → x ≡ dropped_below runs (last + 1) v → x ≡ dropped_below runs k v
   dropped_to next was = was ∙ sym (to_next (λ n. dropped_below runs n v) member dropped_none next)
 
-  pub dropped_all : {last : ℕ} {x : View} (n : ℕ) → last < n → NoneAbove member last
+  pub dropped_all : {last : ℕ} {x : View} (n : ℕ) → last < n → Least (λ j. member j ≡ true) last None
       → x ≡ dropped_below runs (last + 1) v → x ≡ dropped_below runs n v
-  dropped_all n inside up was = was ∙ sym (to_end (λ n. dropped_below runs n v) member dropped_none n inside up)
+  dropped_all n inside past was = was ∙ sym (to_end (λ n. dropped_below runs n v) member dropped_none n inside past)
 
 -- a running row is one of the rows
 pub runs_within : (t : RowTable) (k : ℕ) → in_state (rows_of t) Running k ≡ true → k ≤ (rows_of t).count

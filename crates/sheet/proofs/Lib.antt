@@ -1,7 +1,6 @@
 pub mod Aborting
 pub mod Comings
 pub mod Graphs
-pub mod Members
 pub mod Searching
 pub mod Starting
 pub mod Rolling

@@ -1,5 +1,5 @@
 -- Lists put into a table one after the other. Assumes nothing.
-use Rattle.std.proofs.Common.{◌≡◌, ℕ, zero, suc, ◌+◌, ◌*◌, ◌<◌, ◌≤◌, Bool, true, false, cond, List, [], ◌∷◌, ◌++◌, length, set, map, drop, refl, sym, subst, ap, ◌∙◌, ap₂, inl, inr, add-one, add-zero, zero-add, arith, length-append}
+use Rattle.std.proofs.Common.{◌≡◌, ℕ, zero, suc, ◌+◌, ◌*◌, ◌<◌, ◌≤◌, Bool, true, false, cond, List, [], ◌∷◌, ◌++◌, length, Some, None, set, map, drop, refl, sym, subst, ap, ◌∙◌, ap₂, inl, inr, add-one, add-zero, zero-add, arith, length-append}
 use Rattle.std.proofs.Math.Seq.{sets}
 use Rattle.std.proofs.lemmas.Bool.{cases_eq}
 use Rattle.std.proofs.lemmas.List.{append-nil, map-append}
@@ -7,7 +7,8 @@ use Rattle.std.proofs.lemmas.List.Edits.{sets-eq}
 use Rattle.model.specs.Run.{over}
 use Rattle.model.specs.Search.{each_below, all_below}
 use Rattle.sheet.specs.Listings.{put_all, Puts, only_if}
-use Rattle.sheet.proofs.Members.{IsNext, NoneAbove, to_next, to_end}
+use Rattle.graph.specs.Reach.{Least}
+use Rattle.rowset.proofs.Loops.{to_next, to_end}
 
 -- ── one list after another ──
 
@@ -99,7 +100,7 @@ module _ {X : Type 0} (p : ℕ → Bool) (h : ℕ → List X) where
 
   module _ {a last b : ℕ} {t u : List X} (so_far : Puts (each_below (last + 1) given) a t b u) where
     -- with the next member
-    pub puts_next : {c k : ℕ} {v : List X} → IsNext p last k → Puts (h k) b u c v
+    pub puts_next : {c k : ℕ} {v : List X} → Least (λ j. p j ≡ true) last (Some k) → Puts (h k) b u c v
         → Puts (each_below (k + 1) given) a t c v
     puts_next {c} {k} {v} next one =
         puts_each given k
@@ -107,6 +108,6 @@ module _ {X : Type 0} (p : ℕ → Bool) (h : ℕ → List X) where
         (subst (λ m. Puts (cond m (h k) []) b u c v) (sym next.1) one)
 
     -- where there is none
-    pub puts_end : (n : ℕ) → last < n → NoneAbove p last → Puts (each_below n given) a t b u
-    puts_end n inside up =
-        subst (λ xs. Puts xs a t b u) (sym (to_end (λ n. each_below n given) p still n inside up)) so_far
+    pub puts_end : (n : ℕ) → last < n → Least (λ j. p j ≡ true) last None → Puts (each_below n given) a t b u
+    puts_end n inside past =
+        subst (λ xs. Puts xs a t b u) (sym (to_end (λ n. each_below n given) p still n inside past)) so_far

@@ -23,7 +23,8 @@ use Rattle.sheet.specs.declared.sheets.Sheet.{Sheet}
 use Rattle.sheet.specs.Fields.{SetsStep, Shows, ShowsNow, StandsFirst, fields_with, highest_step, shown_below}
 use Rattle.sheet.specs.Reports.{Replies}
 use Rattle.sheet.specs.SheetOf.{sheet_of, chart_of}
-use Rattle.sheet.proofs.Members.{IsNext, NoneAbove, to_next, to_end}
+use Rattle.graph.specs.Reach.{Least}
+use Rattle.rowset.proofs.Loops.{to_next, to_end}
 
 -- ── a value for each number below n ──
 
@@ -174,13 +175,13 @@ among_highest r k first low (suc n) within none = elim (cases_eq (r.step n) k) [
 
 module _ (x : Sheet) (member : ℕ → Bool) (are : (k : ℕ) → member k ≡ is_highest (sheet_of x).rows k) {last : ℕ} where
   -- up to the next highest row
-  pub shown_to : {row : ℕ} (bytes : List ℕ) → IsNext member last row
+  pub shown_to : {row : ℕ} (bytes : List ℕ) → Least (λ j. member j ≡ true) last (Some row)
       → Shows x (shown_below x (last + 1)) bytes → Shows x (shown_below x row) bytes
   shown_to {row} bytes next = shows_same x (shown_below x (last + 1)) (shown_below x row) bytes (λ k l h.
       sym (to_next (λ n. shown_below x n k) member (λ n out. still_shown x k n l (sym (are n) ∙ out)) next))
 
   -- after the last one
-  pub rows_shown : (bytes : List ℕ) → last < (sheet_of x).rows.count + 1 → NoneAbove member last
+  pub rows_shown : (bytes : List ℕ) → last < (sheet_of x).rows.count + 1 → Least (λ j. member j ≡ true) last None
       → Shows x (shown_below x (last + 1)) bytes → Shows x (shown (chart_of x) (sheet_of x)) bytes
   rows_shown bytes within none =
       let r = (sheet_of x).rows in

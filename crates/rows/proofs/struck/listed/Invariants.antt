@@ -1,7 +1,7 @@
 use Rattle.std.proofs.Common.{◌-◌, ◌≤◌, length}
 use Rattle.model.specs.Search.{has}
 use Rattle.rowset.specs.Members.{contains}
-use Rattle.rows.proofs.Members.{UpTo}
+use Rattle.rowset.proofs.Loops.{UpTo}
 use Rattle.rows.proofs.struck.listed.Given as goal
 
 abbrev pub invariant-loop-row : goal.invariant-loop-row

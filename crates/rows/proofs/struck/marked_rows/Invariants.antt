@@ -2,7 +2,7 @@ use Rattle.std.proofs.Common.{◌-◌, ◌&&◌}
 use Rattle.graph.specs.Column.{marked}
 use Rattle.graph.specs.Held.{held}
 use Rattle.rowset.specs.Members.{is_number, contains}
-use Rattle.rows.proofs.Members.{UpTo}
+use Rattle.rowset.proofs.Loops.{UpTo}
 use Rattle.rows.proofs.struck.marked_rows.Given as goal
 
 abbrev pub invariant-loop-number : goal.invariant-loop-number

@@ -5,7 +5,7 @@ use Rattle.values.specs.declared.RowState.TheVariants.{Committed}
 use Rattle.model.specs.Rows.{in_state}
 use Rattle.rowset.specs.Members.{contains}
 use Rattle.rows.specs.Tables.{rows_of}
-use Rattle.rows.proofs.Members.{UpTo}
+use Rattle.rowset.proofs.Loops.{UpTo}
 use Rattle.rows.proofs.table.RowTable.committed_marked.Given as goal
 
 abbrev pub invariant-loop-row : goal.invariant-loop-row

@@ -1,11 +1,13 @@
 use Rattle.std.proofs.Common.{◌≡◌, ℕ, ◌&&◌, ◌||◌, Bool, true, [], cond, eqb, refl, ap, ap₂, ◌∙◌}
+use mathlib.Core.Path.{fun_ext}
 use Rattle.values.specs.declared.RowState.TheVariants.{Running}
 use Rattle.rowset.specs.Members.{contains}
 use Rattle.model.specs.Chart.{Chart}
 use Rattle.model.specs.Rollback.{fallen}
 use Rattle.model.specs.Rows.{Rows, idle, in_state, live, with_states}
 use Rattle.rows.specs.Tables.{rows_of, rolled_of}
-use Rattle.rows.proofs.Falls.{up_to_none, fallen_states, fallen_rolled, states_more, states_all, rolled_more, rolled_all}
+use Rattle.rowset.proofs.Loops.{up_to_none}
+use Rattle.rows.proofs.Falls.{fallen_states, fallen_rolled, states_more, states_all, rolled_more, rolled_all}
 use Rattle.rows.proofs.table.RowTable.fall.Goals as goal
 
 pub loop-row-init : goal.loop-row-init
@@ -14,8 +16,8 @@ loop-row-init c =
     let rolled = rolled_of c.args.self.now in
     let struck : ℕ → Bool = contains c.args.struck.now in
     record {
-      rows = ap (with_states r) (up_to_none (fallen_states (c.args.steps.now, []) r struck) r.state refl);
-      rolled = up_to_none (fallen_rolled r struck c.args.number rolled) rolled refl;
+      rows = ap (with_states r) (fun_ext (up_to_none (fallen_states (c.args.steps.now, []) r struck) r.state refl));
+      rolled = fun_ext (up_to_none (fallen_rolled r struck c.args.number rolled) rolled refl);
     }
 
 pub loop-row-preserved : goal.loop-row-preserved

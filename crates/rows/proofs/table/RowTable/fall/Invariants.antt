@@ -2,7 +2,8 @@ use Rattle.std.proofs.Common.{◌≡◌, ℕ, Bool, [], ◌-◌}
 use Rattle.rowset.specs.Members.{contains}
 use Rattle.model.specs.Rows.{with_states}
 use Rattle.rows.specs.Tables.{rows_of, rolled_of}
-use Rattle.rows.proofs.Falls.{up_to, fallen_states, fallen_rolled}
+use Rattle.rowset.proofs.Loops.{up_to}
+use Rattle.rows.proofs.Falls.{fallen_states, fallen_rolled}
 use Rattle.rows.proofs.table.RowTable.fall.Given as goal
 
 -- the rows up to the last one that fell are as they shall be, and the others as they were

@@ -1,11 +1,11 @@
-use Rattle.std.proofs.Common.{◌≡◌, ℕ, ◌+◌, ◌≤◌, Bool, ◌&&◌, eqb, sym, ◌∙◌, arith}
-use Rattle.std.proofs.lemmas.Bool.{and_from, and_parts, eq-eqb}
+use Rattle.std.proofs.Common.{◌≡◌, ℕ, ◌+◌, ◌≤◌, Bool, false, ◌&&◌, eqb, sym, ◌∙◌, arith}
+use Rattle.std.proofs.lemmas.Bool.{and_from, and_left, eq-eqb}
 use Rattle.model.proofs.Basics.{any_below_in}
 use Rattle.rows.proofs.Below.{any_below_none}
 use Rattle.rowset.specs.Members.{contains}
 use Rattle.sheet.specs.SheetOf.{sheet_of}
 use Rattle.sheet.proofs.Listing.{step_within}
-use Rattle.sheet.proofs.Members.{none_at_all}
+use Rattle.rowset.proofs.Loops.{at_all}
 use Rattle.sheet.proofs.sheets.Sheet.any_of_first_step.Goals as goal
 
 pub returns-then-step-eq1 : goal.returns-then-step-eq1
@@ -23,5 +23,5 @@ returns c =
     let p : ℕ → Bool = contains c.args.rows.now in
     let first : ℕ → Bool = λ k. eqb (r.step k) 1 in
     let test : ℕ → Bool = λ k. p k && first k in
-    let none = none_at_all p test (λ k t. (and_parts (p k) (first k) t).0) c.loop-row.invariant c.in_default.ensures in
+    let none = at_all p (λ k. test k ≡ false) (λ k out. and_left (p k) (first k) out) c.loop-row.invariant c.in_default.ensures in
     sym (any_below_none (r.count + 1) test (λ k l. none k))

@@ -1,12 +1,14 @@
-use Rattle.std.proofs.Common.{◌≡◌, None, ◌-◌}
+use Rattle.std.proofs.Common.{◌≡◌, ℕ, ◌-◌, ◌≤◌, false, None}
 use Rattle.sheet.specs.SheetOf.{sheet_of}
 use Rattle.sheet.specs.Calls.{not_open}
-use Rattle.sheet.proofs.Members.{NoneTo}
 use Rattle.sheet.proofs.sheets.Sheet.lowest_not_open.Given as goal
 
 abbrev pub invariant-rows : goal.invariant-rows
 invariant-rows g l =
-    record { none : NoneTo (not_open (sheet_of l.self).rows (g.X.Host.view l.host)) l.last; found : l.found ≡ None }
+    record {
+      none : (k : ℕ) → k ≤ l.last → not_open (sheet_of l.self).rows (g.X.Host.view l.host) k ≡ false;
+      found : l.found ≡ None;
+    }
 
 abbrev pub decreases-rows : goal.decreases-rows
 decreases-rows g l = 65536 - l.last

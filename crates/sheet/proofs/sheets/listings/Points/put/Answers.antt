@@ -2,7 +2,7 @@ use Rattle.std.proofs.Common.{ℕ, ◌+◌, Bool, [], ◌∷◌, arith}
 use Rattle.model.specs.Search.{all_below}
 use Rattle.rowset.specs.Members.{contains}
 use Rattle.sheet.specs.Listings.{only_if, members}
-use Rattle.sheet.proofs.Members.{member_within}
+use Rattle.rowset.proofs.Loops.{member_within}
 use Rattle.sheet.proofs.Puts.{puts_then, length_only_if, length_given, puts_next, puts_end}
 use Rattle.sheet.proofs.sheets.listings.Points.put.Goals as goal
 
