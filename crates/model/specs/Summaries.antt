@@ -1,5 +1,5 @@
 -- The summary of a sheet, and that it depends on no private entry. Assumes nothing.
-use Rattle.std.specs.Prelude.{◌≡◌, ℕ, zero, suc, ◌+◌, cond, List, length, Some, None, Option, ◌==◌, map, count_by}
+use Rattle.std.specs.Prelude.{◌≡◌, ℕ, zero, suc, ◌+◌, true, cond, List, length, Some, None, Option, ◌==◌, map, count_by}
 use Rattle.std.specs.List.{range_with_len}
 use Rattle.values.specs.declared.Phase.{Phase}
 use Rattle.values.specs.declared.RowState.{RowState}
@@ -74,3 +74,7 @@ TellsNothingPrivate c s x =
 
 abbrev pub PrivateEntriesChangeNoSummary : Type 0
 PrivateEntriesChangeNoSummary = (c : Chart) (s : Sheet) → TellsNothingPrivate c s (summary_of c s)
+
+-- of a private step nothing is told
+abbrev pub PrivateStepsHaveNoStanding : Type 0
+PrivateStepsHaveNoStanding = (c : Chart) (r : Rows) (k : ℕ) → (step_at c k).private ≡ true → standing c r k ≡ None

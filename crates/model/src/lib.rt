@@ -6,7 +6,7 @@ ghost use Rattle.model.specs.Examples.{ExamplesShow};
 ghost use Rattle.model.specs.Histories.{LawOverEveryRun};
 ghost use Rattle.model.specs.Laws.{SheetsAreOrderly, AfterIsReachedByArrows, StruckSetIsTheLeast, AbortsFall};
 ghost use Rattle.model.specs.Laws.{ListingsAreExact, ListingsStay, RepliesTell};
-ghost use Rattle.model.specs.Summaries.{PrivateEntriesChangeNoSummary};
+ghost use Rattle.model.specs.Summaries.{PrivateEntriesChangeNoSummary, PrivateStepsHaveNoStanding};
 
 /// The eight worked examples, computed from the definitions.
 pub fn examples_show()
@@ -57,4 +57,9 @@ pub fn replies_tell()
 /// The summary of a sheet is the same whatever the private entries are.
 pub fn private_entries_change_no_summary()
     ensures { PrivateEntriesChangeNoSummary }
+{}
+
+/// Of a private step a summary tells nothing.
+pub fn private_steps_have_no_standing()
+    ensures { PrivateStepsHaveNoStanding }
 {}

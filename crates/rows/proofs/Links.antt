@@ -11,11 +11,14 @@ use Rattle.model.specs.Sheets.{Lower}
 use Rattle.model.proofs.Basics.{any_out, any_in}
 use Rattle.model.proofs.Reach.{after_lower}
 use Rattle.rows.specs.declared.row.Row.{Row}
-use Rattle.rows.specs.Arrows.{passed_preds}
 use Rattle.rows.specs.Columns.{columns, preds_of, Positive}
 use Rattle.rows.specs.Linked.{brings}
 use Rattle.rows.proofs.Arrows.{has_cond, joins_forth}
 use Rattle.rows.proofs.Walks.{within_is}
+
+-- the predecessors of a passed-over row; none of any other
+abbrev passed_preds : Rows → ℕ → List ℕ
+passed_preds r v = cond (in_state r PassedOver v) (r.preds v) []
 
 -- what stands in a list that is there only if a test passes
 has_test : (b : Bool) (xs : List ℕ) (k : ℕ) → has k (cond b xs []) ≡ true → b ≡ true

@@ -1,9 +1,7 @@
 -- The arrows of a table as those of graphs. Assumes nothing.
-use Rattle.std.specs.Prelude.{◌≡◌, ℕ, Bool, true, cond, List, []}
-use Rattle.values.specs.declared.RowState.TheVariants.{PassedOver}
+use Rattle.std.specs.Prelude.{◌≡◌, ℕ, Bool, true, List}
 use Rattle.graph.specs.Reach.{Within}
 use Rattle.model.specs.Search.{has}
-use Rattle.model.specs.Rows.{Rows, in_state}
 
 -- an arrow from j to k, between two of n rows
 pub record Drawn (n : ℕ) (arrow : ℕ → ℕ → Bool) (j k : ℕ) : Type 0 where
@@ -18,7 +16,3 @@ forth preds j k = has j (preds k)
 -- arrows from each row to these predecessors
 abbrev pub back : (ℕ → List ℕ) → ℕ → ℕ → Bool
 back preds j k = has k (preds j)
-
--- the predecessors of a passed-over row; none of any other
-abbrev pub passed_preds : Rows → ℕ → List ℕ
-passed_preds r v = cond (in_state r PassedOver v) (r.preds v) []

@@ -59,9 +59,9 @@ impl Sheet {
         ensures drops { X.Host.view host.new ≡ all_dropped (sheet_of self.now).rows (X.Host.view host.old) }
         ensures switches { X.Host.switches host.new ≡ X.Host.switches host.old }
     {
-        let dropped = self.table.rows_in(RowState::Running);
+        let to_drop = self.table.rows_in(RowState::Running);
         let mut last = 0;
-        while let Some(row) = dropped.next_above(last) {
+        while let Some(row) = to_drop.next_above(last) {
             host.drop_row(row_key(row)).unwrap();
             last = row;
         }

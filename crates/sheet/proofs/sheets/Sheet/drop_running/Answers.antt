@@ -9,8 +9,8 @@ use Rattle.sheet.proofs.sheets.Sheet.drop_running.Goals as goal
 pub unwrap-requires : goal.unwrap-requires
 unwrap-requires g c =
     let runs : ℕ → Bool = in_state (sheet_of c.args.self.now).rows Running in
-    let member : ℕ → Bool = contains c.rows_in-dropped.result in
-    let is : (k : ℕ) → member k ≡ runs k = c.rows_in-dropped.ensures in
+    let member : ℕ → Bool = contains c.rows_in-to_drop.result in
+    let is : (k : ℕ) → member k ≡ runs k = c.rows_in-to_drop.ensures in
     let n = c.in-Some.row in
     let v = g.X.Host.view c.args.host.now in
     let drops = simp c.row_key.ensures at c.drop_row.ensures.does.answers in
@@ -22,8 +22,8 @@ unwrap-requires g c =
 pub loop-row-preserved : goal.loop-row-preserved
 loop-row-preserved g c =
     let runs : ℕ → Bool = in_state (sheet_of c.args.self.now).rows Running in
-    let member : ℕ → Bool = contains c.rows_in-dropped.result in
-    let is : (k : ℕ) → member k ≡ runs k = c.rows_in-dropped.ensures in
+    let member : ℕ → Bool = contains c.rows_in-to_drop.result in
+    let is : (k : ℕ) → member k ≡ runs k = c.rows_in-to_drop.ensures in
     let n = c.in-Some.row in
     let v = g.X.Host.view c.args.host.now in
     let here = dropped_to runs member is v c.in-Some.ensures c.loop-row.invariant.dropped in
@@ -38,8 +38,8 @@ loop-row-preserved g c =
 pub returns-clause-drops : goal.returns-clause-drops
 returns-clause-drops g c =
     let runs : ℕ → Bool = in_state (sheet_of c.args.self.now).rows Running in
-    let member : ℕ → Bool = contains c.rows_in-dropped.result in
-    let is : (k : ℕ) → member k ≡ runs k = c.rows_in-dropped.ensures in
+    let member : ℕ → Bool = contains c.rows_in-to_drop.result in
+    let is : (k : ℕ) → member k ≡ runs k = c.rows_in-to_drop.ensures in
     let r = (sheet_of c.args.self.now).rows in
     let v = g.X.Host.view c.args.host.now in
     dropped_all runs member is v (r.count + 1) (omega arith) c.in_default.ensures c.loop-row.invariant.dropped
