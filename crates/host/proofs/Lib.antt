@@ -1,5 +1,7 @@
 pub mod Ext
 pub mod Joined
+pub mod Sorted
+pub mod Passing
 pub mod Along
 pub mod Checks
 pub mod Tables

@@ -23,3 +23,11 @@ same_row a b = a == b
 -- the place of a fault at a row
 abbrev pub place_of : RowKey → ℕ
 place_of row = row
+
+-- the number of the row with a key
+abbrev pub number_of : RowKey → ℕ
+number_of row = row
+
+-- which keys are those of a sheet's rows: all keys that a host knows, since a host serves one sheet
+abbrev pub is_of_sheet : RowKey → Bool
+is_of_sheet row = is_row row

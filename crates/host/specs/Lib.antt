@@ -1,7 +1,10 @@
 pub mod Keys
 pub mod View
-pub mod Views
+pub mod Known
 pub mod Calls
+pub mod Views
+pub mod Commands
+pub mod Laws
 pub mod Later
 pub mod Table
 pub mod Places

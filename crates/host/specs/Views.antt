@@ -1,16 +1,15 @@
--- What a switch and a pair show, by what the hosts below them show. Assumes nothing.
-use Rattle.std.specs.Prelude.{◌≡◌, Bool, true, false, cond, not, ◌||◌, List, ◌∷◌, ◌++◌}
+-- What a switch and a pair show, what they hold, and what calls make of them, by the hosts below them. Assumes nothing.
+use Rattle.std.specs.Prelude.{◌≡◌, Bool, true, false, cond, not, ◌&&◌, ◌||◌, Result}
 use Rattle.values.specs.Numbers.{same_kind}
+use Rattle.values.specs.declared.Fault.{Fault}
 use Rattle.values.specs.declared.Kind.{Kind}
+use Rattle.host.specs.Calls.{Makes}
+use Rattle.host.specs.Known.{Known, known_by, only, is_kind, is_other, Sorted}
 use Rattle.host.specs.View.{View, is_unknown, shut_as}
 use Rattle.host.specs.declared.calls.Call.{Call}
 use Rattle.host.specs.declared.calls.Call.TheVariants.{Begin, Commit, Drop, Undo}
 use Rattle.host.specs.declared.switch.Switch.{Switch}
-use Rattle.host.specs.declared.switch.SwitchCommand.{SwitchCommand}
-use Rattle.host.specs.declared.switch.SwitchCommand.TheVariants.{On, Off, Below}
 use Rattle.host.specs.declared.pair.Pair.{Pair}
-use Rattle.host.specs.declared.pair.PairCommand.{PairCommand}
-use Rattle.host.specs.declared.pair.PairCommand.TheVariants.{First, Second}
 
 -- a switch that is off shuts; everything else is the host below
 abbrev pub switched : Bool → View → View
@@ -38,32 +37,58 @@ switch_view view s = switched s.on (view s.inner)
 abbrev pub pair_view : {X Y : Type 0} → (X → View) → (Y → View) → Pair X Y → View
 pair_view first_view second_view p = joined p.kind (first_view p.first) (second_view p.second)
 
--- whether a switch is shut after a command
-abbrev pub switch_shuts : {X C : Type 0} → (X → View) → (X → C → Bool) → Switch X → SwitchCommand C → Bool
-switch_shuts view shuts s On = (view s.inner).shut
-switch_shuts view shuts s Off = true
-switch_shuts view shuts s (Below c) = cond s.on (shuts s.inner c) true
+-- ── what is held where ──
 
--- whether a pair is shut after a command for one of its hosts
-abbrev pub pair_shuts : {X Y C D : Type 0} → (X → View) → (X → C → Bool) → (Y → View) → (Y → D → Bool)
-    → Pair X Y → PairCommand C D → Bool
-pair_shuts first_view first_shuts second_view second_shuts p (First c) = first_shuts p.first c || (second_view p.second).shut
-pair_shuts first_view first_shuts second_view second_shuts p (Second c) = (first_view p.first).shut || second_shuts p.second c
+-- a switch holds what the host below does
+abbrev pub SwitchHolds : {X : Type 0} → (X → Known → Type 0) → Switch X → Known → Type 0
+SwitchHolds holds s known = holds s.inner known
 
--- how the switches stand: that of a switch before those below it, and those of a pair's first host before those of its second
-abbrev pub switch_switches : {X : Type 0} → (X → List Bool) → Switch X → List Bool
-switch_switches below s = s.on ∷ below s.inner
+-- a pair holds, of given rows, those of its kind in its first host and all others in its second
+abbrev pub PairHolds : {X Y : Type 0} → (X → Known → Type 0) → (Y → Known → Type 0) → Pair X Y → Known → Type 0
+PairHolds first second p known =
+    first p.first (only (is_kind p.kind) known) × second p.second (only (is_other p.kind) known)
 
-abbrev pub pair_switches : {X Y : Type 0} → (X → List Bool) → (Y → List Bool) → Pair X Y → List Bool
-pair_switches first second p = first p.first ++ second p.second
+-- ── what a call makes of them ──
 
--- what a command leaves of a switch: turning it leaves the host below as it is, and a command for that host leaves the switch
-abbrev pub SwitchLeft : {X C : Type 0} → (X → C → X → Type 0) → Switch X → SwitchCommand C → Switch X → Type 0
-SwitchLeft below s On t = (t.inner ≡ s.inner) × (t.on ≡ true)
-SwitchLeft below s Off t = (t.inner ≡ s.inner) × (t.on ≡ false)
-SwitchLeft below s (Below c) t = (t.on ≡ s.on) × below s.inner c t.inner
+-- a call made at a host: its answer, what the host shows after it, and what it made of the host in the host's own terms
+pub record Called {X : Type 0} (view : X → View) (makes : X → Call → Result (Unit {0}) Fault → X → Type 0)
+    (x : X) (c : Call) (r : Result (Unit {0}) Fault) (y : X) : Type 0 where
+  pub shows : Makes (view x) c r (view y)
+  pub made : makes x c r y
 
--- what a command for one host of a pair leaves: the kind and the other host
-abbrev pub PairLeft : {X Y C D : Type 0} → (X → C → X → Type 0) → (Y → D → Y → Type 0) → Pair X Y → PairCommand C D → Pair X Y → Type 0
-PairLeft first second p (First c) q = (q.kind ≡ p.kind) × (q.second ≡ p.second) × first p.first c q.first
-PairLeft first second p (Second c) q = (q.kind ≡ p.kind) × (q.first ≡ p.first) × second p.second c q.second
+-- made there, or else the host is as it was
+abbrev pub CalledIf : {X : Type 0} → Bool → (X → View) → (X → Call → Result (Unit {0}) Fault → X → Type 0)
+    → X → Call → Result (Unit {0}) Fault → X → Type 0
+CalledIf true view makes x c r y = Called view makes x c r y
+CalledIf false view makes x c r y = y ≡ x
+
+-- a switch stays as it stands; a call is made at the host below exactly if it is on
+abbrev pub SwitchMakes : {X : Type 0} → (X → View) → (X → Call → Result (Unit {0}) Fault → X → Type 0)
+    → Switch X → Call → Result (Unit {0}) Fault → Switch X → Type 0
+SwitchMakes view makes s c r t = (t.on ≡ s.on) × CalledIf s.on view makes s.inner c r t.inner
+
+-- a pair keeps its kind; a call is made at the one host that it is for, if the pair is open
+abbrev pub PairMakes : {X Y : Type 0} → (X → View) → (X → Call → Result (Unit {0}) Fault → X → Type 0)
+    → (Y → View) → (Y → Call → Result (Unit {0}) Fault → Y → Type 0)
+    → Pair X Y → Call → Result (Unit {0}) Fault → Pair X Y → Type 0
+PairMakes first_view first second_view second p c r q =
+    let to_first = for_first p.kind (first_view p.first) (second_view p.second) c in
+    let open_pair = not (pair_view first_view second_view p).shut in
+    (q.kind ≡ p.kind)
+    × CalledIf (open_pair && to_first) first_view first p.first c r q.first
+    × CalledIf (open_pair && not to_first) second_view second p.second c r q.second
+
+-- what calls can make of a switch: it stays as it stands, and while it is off the host below is as it was
+pub record SwitchGoes {X : Type 0} (below : X → X → Type 0) (s t : Switch X) : Type 0 where
+  pub on : t.on ≡ s.on
+  pub inner : below s.inner t.inner
+  pub off : s.on ≡ false → t.inner ≡ s.inner
+
+-- what calls can make of a pair: it keeps its kind, each of its hosts goes on, and rows stay where they belong
+pub record PairGoes {X Y : Type 0} (first_view : X → View) (first_holds : X → Known → Type 0) (first_goes : X → X → Type 0)
+    (second_view : Y → View) (second_holds : Y → Known → Type 0) (second_goes : Y → Y → Type 0) (p q : Pair X Y) : Type 0 where
+  pub kind : q.kind ≡ p.kind
+  pub first : first_goes p.first q.first
+  pub second : second_goes p.second q.second
+  pub sorted : Sorted (pair_view first_view second_view) (PairHolds first_holds second_holds) p
+      → Sorted (pair_view first_view second_view) (PairHolds first_holds second_holds) q

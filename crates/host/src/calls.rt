@@ -20,7 +20,8 @@ impl Call {
     /// Makes the call.
     pub fn make<X: Host>(self, host: &mut X) -> Result<(), Fault>
         ensures makes { Makes (X.Host.view host.old) self result (X.Host.view host.new) }
-        ensures switches { X.Host.switches host.new ≡ X.Host.switches host.old }
+        ensures made { X.Host.makes host.old self result host.new }
+        ensures goes { X.Host.goes host.old host.new }
     {
         match self {
             Call::Begin(row, entry) => host.begin(row, entry),
@@ -45,7 +46,7 @@ pub fn make_all<X: Host>(host: &mut X, calls: &[Call]) -> usize
     ensures answers { result ≡ accepted (X.Host.view host.old) calls.now }
     ensures shows { X.Host.view host.new ≡ after_calls (X.Host.view host.old) calls.now }
     ensures later { Later (X.Host.view host.old) (X.Host.view host.new) }
-    ensures switches { X.Host.switches host.new ≡ X.Host.switches host.old }
+    ensures goes { X.Host.goes host.old host.new }
 {
     let mut count = 0;
     for call in calls {

@@ -1,8 +1,14 @@
 // What a host is, and what shuts and opens one between calls.
-ghost use Rattle.std.specs.Prelude.{◌≡◌, Bool, List};
+ghost use Rattle.std.specs.Prelude.{◌≡◌, Bool, Option, Result};
 ghost use Rattle.values.specs.Checks.{answer, first_fault};
+ghost use Rattle.values.specs.declared.Fault.{Fault};
 ghost use Rattle.values.specs.declared.HostState.TheVariants.{Open, Standing, Void, Reversed};
-ghost use Rattle.host.specs.View.{View, Sound, Begins, Moves, Between, begin_checks, move_checks};
+ghost use Rattle.host.specs.Commands.{shown_after, Left};
+ghost use Rattle.host.specs.Known.{Known};
+ghost use Rattle.host.specs.Laws.{Whole, Empty, StaysSorted, MovesNoRow};
+ghost use Rattle.host.specs.declared.calls.Call.{Call};
+ghost use Rattle.host.specs.declared.calls.Call.TheVariants.{Begin, Commit, Drop, Undo};
+ghost use Rattle.host.specs.View.{View, Sound, Begins, Moves, begin_checks, move_checks};
 
 use crate::declines::declined;
 use crate::keys::{RowKey, is_row};
@@ -10,30 +16,41 @@ use values::{Cause, Entry, Fault, HostState, Kind};
 
 /// A place where steps write their rows.
 pub trait Host {
+    // what every host shows
     ghost view: { Self → View };
 
-    // how the switches stand that shut it, first to last; no call turns one
-    ghost switches: { Self → List Bool };
+    // what a call, with its answer, makes of a host in the host's own terms
+    ghost makes: { Self → Call → Result (Unit {0}) Fault → Self → Type 0 };
+
+    // what calls, one or many, can make of a host in its own terms
+    ghost goes: { Self → Self → Type 0 };
+
+    // whether each part of a host knows, of given rows, exactly those that belong there
+    ghost holds: { Self → Known → Type 0 };
 
     /// Begins an unknown row: it is open, with this entry.
     fn begin(&mut self, row: RowKey, entry: Entry) -> Result<(), Fault>
         ensures does { Begins (view self.old) row entry result (view self.new) }
-        ensures switches { switches self.new ≡ switches self.old };
+        ensures made { makes self.old (Begin row entry) result self.new }
+        ensures goes { goes self.old self.new };
 
     /// Makes an open row stand.
     fn commit(&mut self, row: RowKey) -> Result<(), Fault>
         ensures does { Moves Open Standing (view self.old) row result (view self.new) }
-        ensures switches { switches self.new ≡ switches self.old };
+        ensures made { makes self.old (Commit row) result self.new }
+        ensures goes { goes self.old self.new };
 
     /// Makes an open row void.
     fn drop_row(&mut self, row: RowKey) -> Result<(), Fault>
         ensures does { Moves Open Void (view self.old) row result (view self.new) }
-        ensures switches { switches self.new ≡ switches self.old };
+        ensures made { makes self.old (Drop row) result self.new }
+        ensures goes { goes self.old self.new };
 
     /// Undoes a standing row.
     fn undo(&mut self, row: RowKey) -> Result<(), Fault>
         ensures does { Moves Standing Reversed (view self.old) row result (view self.new) }
-        ensures switches { switches self.new ≡ switches self.old };
+        ensures made { makes self.old (Undo row) result self.new }
+        ensures goes { goes self.old self.new };
 
     /// Whether the host is shut.
     fn is_shut(&self) -> bool
@@ -76,24 +93,39 @@ pub trait Host {
     }
 
     ghost sound: { (h : Self) → Sound (view h) };
+
+    ghost stays: { (h : Self) → goes h h };
+
+    ghost goes_on: { (h i j : Self) → goes h i → goes i j → goes h j };
+
+    ghost whole: { Whole view holds };
+
+    ghost empty: { Empty view holds };
+
+    ghost stays_sorted: { StaysSorted view holds goes };
 }
 
 /// A host that can be shut and opened between calls.
 pub trait Controls: Host {
     type Command;
 
-    // whether the host is shut after a command
+    // the fault with which a command is declined, if it is
+    ghost declines: { Self → Self.Command → Option Fault };
+
+    // whether the host is shut after a command that is obeyed
     ghost shuts: { Self → Self.Command → Bool };
 
-    // what a command leaves of the host before it in the host after it
+    // what a command that is obeyed leaves of the host before it in the host after it
     ghost leaves: { Self → Self.Command → Self → Type 0 };
 
-    /// Obeys a command, which changes nothing but whether the host is shut, and says whether it is shut now.
-    fn control(&mut self, command: Self::Command) -> bool
-        ensures between { Between (Self.Host.view self.old) (Self.Host.view self.new) }
-        ensures shut { (Self.Host.view self.new).shut ≡ shuts self.old command }
-        ensures answers { result ≡ shuts self.old command }
-        ensures left { leaves self.old command self.new };
+    /// Obeys a command, which changes nothing but whether the host is shut, and says whether it is shut now; or declines it.
+    fn control(&mut self, command: &Self::Command) -> Result<bool, Fault>
+        ensures answers { result ≡ answer (declines self.old command.now) (shuts self.old command.now) }
+        ensures shows { Self.Host.view self.new
+            ≡ shown_after (declines self.old command.now) (shuts self.old command.now) (Self.Host.view self.old) }
+        ensures left { Left (declines self.old command.now) leaves self.old command.now self.new };
+
+    ghost moves_no_row: { MovesNoRow Self.Host.holds leaves };
 }
 
 /// The only command of a host that nothing shuts or opens: it changes nothing.

@@ -2,7 +2,9 @@
 ghost use Rattle.std.specs.Prelude.{◌≡◌};
 ghost use Rattle.values.specs.Numbers.{same_kind};
 ghost use Rattle.host.specs.Calls.{Makes};
-ghost use Rattle.host.specs.Views.{joined, pair_view, pair_switches, for_first, pair_shuts, PairLeft};
+ghost use Rattle.host.specs.Commands.{pair_declines, pair_shuts, PairLeaves};
+ghost use Rattle.host.specs.Laws.{pair_stays, pair_goes_on, pair_whole, pair_empty, pair_sorted, pair_moves_no_row};
+ghost use Rattle.host.specs.Views.{joined, pair_view, PairHolds, PairGoes, PairMakes, for_first};
 ghost use Rattle.std.proofs.Common.{rules};
 
 use crate::calls::Call;
@@ -29,9 +31,23 @@ pub enum PairCommand<C, D> {
 impl<X: Host, Y: Host> Host for Pair<X, Y> {
     ghost view = { pair_view X.Host.view Y.Host.view };
 
-    ghost switches = { pair_switches X.Host.switches Y.Host.switches };
+    ghost makes = { PairMakes X.Host.view X.Host.makes Y.Host.view Y.Host.makes };
+
+    ghost goes = { PairGoes X.Host.view X.Host.holds X.Host.goes Y.Host.view Y.Host.holds Y.Host.goes };
+
+    ghost holds = { PairHolds X.Host.holds Y.Host.holds };
 
     ghost sound = { Prim.search rules };
+
+    ghost stays = { pair_stays X.Host.stays Y.Host.stays };
+
+    ghost goes_on = { pair_goes_on X.Host.goes_on Y.Host.goes_on };
+
+    ghost whole = { pair_whole X.Host.view X.Host.holds Y.Host.view Y.Host.holds X.Host.sound X.Host.whole Y.Host.whole };
+
+    ghost empty = { pair_empty X.Host.view X.Host.holds Y.Host.view Y.Host.holds X.Host.empty Y.Host.empty };
+
+    ghost stays_sorted = { pair_sorted X.Host.view X.Host.holds Y.Host.view Y.Host.holds X.Host.goes Y.Host.goes };
 
     // Four lines, as in the other of the two: a trait with the call as its one method would have every host take it apart.
     fn begin(&mut self, row: RowKey, entry: Entry) -> Result<(), Fault> {
@@ -79,20 +95,23 @@ impl<X: Host, Y: Host> Host for Pair<X, Y> {
 impl<X: Controls, Y: Controls> Controls for Pair<X, Y> {
     type Command = PairCommand<X::Command, Y::Command>;
 
+    ghost declines = { pair_declines X.Controls.declines Y.Controls.declines };
+
     ghost shuts = { pair_shuts X.Host.view X.Controls.shuts Y.Host.view Y.Controls.shuts };
 
-    ghost leaves = { PairLeft X.Controls.leaves Y.Controls.leaves };
+    ghost leaves = { PairLeaves X.Controls.leaves Y.Controls.leaves };
 
-    fn control(&mut self, command: PairCommand<X::Command, Y::Command>) -> bool {
+    ghost moves_no_row = { pair_moves_no_row X.Host.holds X.Controls.leaves Y.Host.holds Y.Controls.leaves X.Controls.moves_no_row Y.Controls.moves_no_row };
+
+    fn control(
+        &mut self,
+        command: &PairCommand<X::Command, Y::Command>,
+    ) -> Result<bool, Fault> {
         match command {
-            PairCommand::First(c) => {
-                let _ = self.first.control(c);
-            }
-            PairCommand::Second(c) => {
-                let _ = self.second.control(c);
-            }
-        }
-        self.is_shut()
+            PairCommand::First(c) => self.first.control(c)?,
+            PairCommand::Second(c) => self.second.control(c)?,
+        };
+        Ok(self.is_shut())
     }
 }
 
@@ -136,7 +155,8 @@ impl<X: Host, Y: Host> Pair<X, Y> {
     // Makes a call at the host that it is for, unless the pair is shut.
     fn pass(&mut self, call: Call) -> Result<(), Fault>
         ensures makes { Makes (pair_view X.Host.view Y.Host.view self.old) call result (pair_view X.Host.view Y.Host.view self.new) }
-        ensures switches { pair_switches X.Host.switches Y.Host.switches self.new ≡ pair_switches X.Host.switches Y.Host.switches self.old }
+        ensures made { PairMakes X.Host.view X.Host.makes Y.Host.view Y.Host.makes self.old call result self.new }
+        ensures goes { PairGoes X.Host.view X.Host.holds X.Host.goes Y.Host.view Y.Host.holds Y.Host.goes self.old self.new }
     {
         if self.is_shut() {
             return declined(Cause::ShutHost, call.row());

@@ -1,7 +1,9 @@
 // A host with a switch: while it is off, the host is shut.
 ghost use Rattle.std.specs.Prelude.{◌≡◌, true};
 ghost use Rattle.host.specs.Calls.{Makes};
-ghost use Rattle.host.specs.Views.{switch_view, switch_switches, switch_shuts, SwitchLeft};
+ghost use Rattle.host.specs.Commands.{switch_declines, switch_shuts, SwitchLeaves};
+ghost use Rattle.host.specs.Laws.{switch_stays, switch_goes_on, switch_whole, switch_empty, switch_sorted, switch_moves_no_row};
+ghost use Rattle.host.specs.Views.{switch_view, SwitchHolds, SwitchGoes, SwitchMakes};
 ghost use Rattle.std.proofs.Common.{rules};
 
 use crate::calls::Call;
@@ -28,9 +30,23 @@ pub enum SwitchCommand<C> {
 impl<X: Host> Host for Switch<X> {
     ghost view = { switch_view X.Host.view };
 
-    ghost switches = { switch_switches X.Host.switches };
+    ghost makes = { SwitchMakes X.Host.view X.Host.makes };
+
+    ghost goes = { SwitchGoes X.Host.goes };
+
+    ghost holds = { SwitchHolds X.Host.holds };
 
     ghost sound = { Prim.search rules };
+
+    ghost stays = { switch_stays X.Host.stays };
+
+    ghost goes_on = { switch_goes_on X.Host.goes_on };
+
+    ghost whole = { switch_whole X.Host.view X.Host.holds X.Host.whole };
+
+    ghost empty = { switch_empty X.Host.view X.Host.holds X.Host.empty };
+
+    ghost stays_sorted = { switch_sorted X.Host.view X.Host.holds X.Host.stays_sorted };
 
     // Four lines, as in the other of the two: a trait with the call as its one method would have every host take it apart.
     fn begin(&mut self, row: RowKey, entry: Entry) -> Result<(), Fault> {
@@ -69,19 +85,23 @@ impl<X: Host> Host for Switch<X> {
 impl<X: Controls> Controls for Switch<X> {
     type Command = SwitchCommand<X::Command>;
 
+    ghost declines = { switch_declines X.Controls.declines };
+
     ghost shuts = { switch_shuts X.Host.view X.Controls.shuts };
 
-    ghost leaves = { SwitchLeft X.Controls.leaves };
+    ghost leaves = { SwitchLeaves X.Controls.leaves };
 
-    fn control(&mut self, command: SwitchCommand<X::Command>) -> bool {
+    ghost moves_no_row = { switch_moves_no_row X.Host.holds X.Controls.leaves X.Controls.moves_no_row };
+
+    fn control(&mut self, command: &SwitchCommand<X::Command>) -> Result<bool, Fault> {
         match command {
-            SwitchCommand::On => self.on = true,
-            SwitchCommand::Off => self.on = false,
+            SwitchCommand::On => self.turn(true),
+            SwitchCommand::Off => self.turn(false),
             SwitchCommand::Below(c) => {
-                let _ = self.inner.control(c);
+                self.inner.control(c)?;
             }
         }
-        self.is_shut()
+        Ok(self.is_shut())
     }
 }
 
@@ -95,10 +115,26 @@ impl<X: Host> Switch<X> {
         Switch { inner, on: true }
     }
 
+    /// Turns the switch on or off. The host below stays as it is.
+    pub fn turn(&mut self, on: bool)
+        ensures on { self.new.on ≡ on }
+        ensures inner { self.new.inner ≡ self.old.inner }
+    {
+        self.on = on;
+    }
+
+    /// Whether the switch is on.
+    pub fn is_on(&self) -> bool
+        ensures { result ≡ self.now.on }
+    {
+        self.on
+    }
+
     // Makes a call at the host below, unless the switch is off.
     fn pass(&mut self, call: Call) -> Result<(), Fault>
         ensures makes { Makes (switch_view X.Host.view self.old) call result (switch_view X.Host.view self.new) }
-        ensures switches { switch_switches X.Host.switches self.new ≡ switch_switches X.Host.switches self.old }
+        ensures made { SwitchMakes X.Host.view X.Host.makes self.old call result self.new }
+        ensures goes { SwitchGoes X.Host.goes self.old self.new }
     {
         if self.on {
             call.make(&mut self.inner)

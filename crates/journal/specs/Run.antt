@@ -6,13 +6,11 @@ use Rattle.process.specs.Accepted.{Reading, tables_of}
 use Rattle.process.specs.Reading.{start}
 use Rattle.model.specs.Chart.{Chart}
 use Rattle.model.specs.Summaries.{summary_of}
-use Rattle.ledger.specs.Book.{ledger_view}
-use Rattle.ledger.specs.Fees.{standing_fees}
 use Rattle.journal.specs.declared.Unreadable.{Unreadable}
 use Rattle.journal.specs.declared.outcomes.Outcome.{Outcome}
 use Rattle.journal.specs.Names.{names_handed}
-use Rattle.journal.specs.Hosts.{Hosts, hosts_view}
-use Rattle.journal.specs.Outcomes.{shown, unread, declined, process_line, replayed}
+use Rattle.journal.specs.Hosts.{fees_standing}
+use Rattle.journal.specs.Outcomes.{Shown, shown, unread, declined, process_line, replayed}
 use Rattle.journal.specs.Played.{Played, play, unplayed}
 use Rattle.journal.specs.Summaries.{joined}
 use Rattle.journal.specs.Settings.{Contents}
@@ -21,21 +19,20 @@ use Rattle.journal.specs.Settings.{Contents}
 abbrev pub played_out : Contents → Chart → Played
 played_out j c = play c (unplayed j.serial j.scores j.ledger (process_line j.process_line c)) j.calls
 
--- the balance that is told in the end: where it is wanted it is that of a ledger in hosts that show the world so
-abbrev pub BalanceTold : Bool → Played → Option ℤ → Type 0
-BalanceTold false p b = b ≡ None
-BalanceTold true p b = (h : Hosts) × (hosts_view h ≡ p.world.host) × (b ≡ Some (standing_fees (ledger_view h.first.inner)))
+-- the balance that is told in the end, where it is wanted: the sum of the fees that stand in the last world
+abbrev pub balance_told : Bool → Played → Option ℤ
+balance_told false p = None
+balance_told true p = Some (fees_standing p.world.host)
 
 -- what is told in the end of a journal that was played: the lines of its process and of its calls, and then the summary
-pub record Concludes (treasurer : Bool) (c : Chart) (p : Played) (names : List (List ℕ)) (x : Outcome) : Type 0 where
-  pub balance : Option ℤ
-  pub balances : BalanceTold treasurer p balance
-  pub tells : shown x ≡ replayed p.printed (joined p.calls (summary_of c p.world.sheet) names balance)
+abbrev pub concluded : Bool → Chart → Played → List (List ℕ) → Shown
+concluded treasurer c p names =
+    replayed p.printed (joined p.calls (summary_of c p.world.sheet) names (balance_told treasurer p))
 
 abbrev pub AcceptedTold : Bool → Contents → Outcome → Process → Type 0
 AcceptedTold treasurer j x q =
     let c = tables_of q in
-    Concludes treasurer c (played_out j c) (names_handed (length c.0 + 1) j.process start) x
+    shown x ≡ concluded treasurer c (played_out j c) (names_handed (length c.0 + 1) j.process start)
 
 -- the process that the journal stores on a line gets the one answer for its bytes, and that is told
 pub record ProcessTold (treasurer : Bool) (j : Contents) (x : Outcome) : Type 0 where

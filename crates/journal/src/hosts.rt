@@ -1,6 +1,6 @@
 // The hosts of the program.
 ghost use Rattle.std.specs.Prelude.{◌≡◌, IfOk};
-ghost use Rattle.journal.specs.Hosts.{hosts_view, opening_hosts, switches_of, all_on};
+ghost use Rattle.journal.specs.Hosts.{hosts_view, opening_hosts, switches_of, all_on, InOrder};
 
 use host::{Pair, Switch};
 use ledger::Ledger;
@@ -25,6 +25,7 @@ const UNUSED_LINE: ledger::Line = ledger::Line {
 pub fn new_hosts(heap: Global, scores: u16, ledger: u16) -> Result<Hosts, AllocError>
     ensures shows { IfOk result (λ h. hosts_view h ≡ opening_hosts scores ledger) }
     ensures on { IfOk result (λ h. switches_of h ≡ all_on) }
+    ensures order { IfOk result (λ h. InOrder h) }
 {
     let ledger = Ledger::new(vec![in heap; UNUSED_LINE; usize::from(ledger)]?);
     let scores = ScoreBook::new(vec![in heap; Record::UNUSED; usize::from(scores)]?);

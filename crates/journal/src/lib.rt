@@ -25,7 +25,7 @@ pub use events::{Command, HostEvent, Line, Turn};
 pub use hosts::{Hosts, new_hosts};
 pub use names::step_names;
 pub use outcomes::Outcome;
-pub use play::FIRST_SIZES;
+pub use play::playing::FIRST_SIZES;
 pub use replay::run;
 pub use settings::parse;
 pub use sheet::RowCounts;

@@ -6,11 +6,12 @@ use Rattle.std.proofs.lemmas.Int.{ints}
 use Rattle.values.specs.Numbers.{same_host_state}
 use Rattle.values.specs.declared.HostState.TheVariants.{Standing}
 use Rattle.host.specs.Keys.{RowKey, same_row, is_row, rows_most}
+use Rattle.host.specs.Known.{known_row, known_by}
 use Rattle.ledger.specs.declared.lines.Mark.{Mark}
 use Rattle.ledger.specs.declared.lines.Mark.TheVariants.{Hold, Post, Contra, Release}
 use Rattle.ledger.specs.declared.lines.Line.{Line}
 use Rattle.ledger.specs.Lines.{last_of, state_at, state_by, entry_by, is_hold, begun_in, kept_by, may_follow, Follows, lines_due}
-use Rattle.ledger.specs.Fees.{number_of, amount_of, marked, worth, posted, sum_rows, standing_fees, reserved}
+use Rattle.ledger.specs.Fees.{number_of, marked, worth, posted, sum_rows, standing_number, standing_sum, reserved}
 use Rattle.ledger.proofs.Sums.{sum_put, sum_low}
 
 -- a line is the last of its row, and of no other
@@ -65,7 +66,7 @@ fee_begins Release n h = grind arith
 
 -- the fee of a row by its last line, if the row stands
 abbrev fee_by : Option Line → ℤ
-fee_by o = cond (same_host_state (state_by o) Standing) (amount_of (entry_by o)) (pos 0)
+fee_by o = standing_number (known_row (state_by o) (entry_by o))
 
 fee_added : (o : Option Line) (l : Line) → Follows o l → fee_by (Some l) ≡ fee_by o +ℤ worth l
 fee_added None l f = fee_begins l.mark (number_of l.entry.number) f
@@ -79,7 +80,7 @@ alike p s t a b w e c d = omega (arith, ints)
 
 -- whatever line may follow, the balance stays the sum of the standing fees
 pub balanced_push : (xs : List Line) (l : Line) → is_row l.row ≡ true → Follows (last_of xs l.row) l
-    → posted xs ≡ standing_fees (kept_by 0 xs) → posted (xs ++ l ∷ []) ≡ standing_fees (kept_by 0 (xs ++ l ∷ []))
+    → posted xs ≡ standing_sum (known_by (kept_by 0 xs)) → posted (xs ++ l ∷ []) ≡ standing_sum (known_by (kept_by 0 (xs ++ l ∷ [])))
 balanced_push xs l i f old =
     fold_push (λ sum l. sum +ℤ worth l) (pos 0) xs l
     ∙ alike (posted xs) _ _ (fee_by (last_of xs l.row)) (fee_by (Some l)) (worth l) old (sum_push fee_by xs l i) (fee_added _ l f)

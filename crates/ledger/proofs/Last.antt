@@ -19,7 +19,7 @@ last_from row o (x ∷ xs) =
     grind (arith, nat_tests)
 
 -- the last line is in the rest, or else first
-last_more : (x : Line) (xs : List Line) (row : RowKey)
+pub last_more : (x : Line) (xs : List Line) (row : RowKey)
     → last_of (x ∷ xs) row ≡ option_or (last_of xs row) (cond (same_row x.row row) (Some x) None)
 last_more x xs row = last_from row (cond (same_row x.row row) (Some x) None) xs
 

@@ -1,14 +1,16 @@
 -- A ledger: its lines, the rest of its table, what it shows, and what its calls write. Assumes nothing.
-use Rattle.std.specs.Prelude.{◌≡◌, ℕ, ◌-◌, ◌/◌, min, List, ◌++◌, length, take, drop, Option}
-use Rattle.values.specs.Checks.{after, first_fault}
+use Rattle.std.specs.Prelude.{◌≡◌, ℕ, ◌-◌, ◌/◌, min, List, [], ◌∷◌, ◌++◌, length, take, drop, Ok, Err, Result}
 use Rattle.values.specs.declared.Fault.{Fault}
 use Rattle.host.specs.Keys.{RowKey}
 use Rattle.host.specs.Table.{capacity_of}
-use Rattle.host.specs.View.{View, move_checks}
+use Rattle.host.specs.View.{View}
+use Rattle.host.specs.declared.calls.Call.{Call}
+use Rattle.host.specs.declared.calls.Call.TheVariants.{Begin, Commit, Drop, Undo}
 use Rattle.ledger.specs.declared.lines.Mark.{Mark}
+use Rattle.ledger.specs.declared.lines.Mark.TheVariants.{Post, Contra, Release}
 use Rattle.ledger.specs.declared.lines.Line.{Line}
 use Rattle.ledger.specs.declared.book.Ledger.{Ledger}
-use Rattle.ledger.specs.Lines.{kept_by, begun_in, lines_most, last_of, state_at, next_line}
+use Rattle.ledger.specs.Lines.{kept_by, begun_in, lines_most, last_of, next_line, hold_line}
 
 -- the lines written so far
 abbrev pub lines_of : Ledger → List Line
@@ -29,13 +31,23 @@ free_of b = rows_in (capacity_of b.table) - begun_in (lines_of b)
 abbrev pub ledger_view : Ledger → View
 ledger_view b = kept_by (free_of b) (lines_of b)
 
--- an accepted call adds lines and a declined one none; the old lines are a prefix of the new ones, and the rest is kept
-pub record Writes (fault : Option Fault) (new : List Line) (before later : Ledger) : Type 0 where
-  pub lines : lines_of later ≡ after fault (lines_of before) (lines_of before ++ new)
-  pub prefix : take (length (lines_of before)) (lines_of later) ≡ lines_of before
-  pub rest : rest_of later ≡ after fault (rest_of before) (drop (length new) (rest_of before))
+-- new lines after the old ones, in place of as many unused ones
+pub record Written (new : List Line) (before later : Ledger) : Type 0 where
+  pub lines : lines_of later ≡ lines_of before ++ new
+  pub rest : rest_of later ≡ drop (length new) (rest_of before)
 
--- a move of a row adds a line with another mark and the row's entry, if the row's last line has the mark that it wants
-abbrev pub Turns : Mark → Mark → Ledger → Ledger → RowKey → Type 0
-Turns from to before later row =
-    Writes (first_fault (move_checks (state_at from) (ledger_view before) row)) (next_line to row (last_of (lines_of before) row)) before later
+-- another mark for a row, with the row's entry
+abbrev pub Turned : Mark → Ledger → Ledger → RowKey → Type 0
+Turned to before later row = Written (next_line to row (last_of (lines_of before) row)) before later
+
+-- what a call makes of a ledger; a declined one changes nothing
+abbrev pub LedgerMakes : Ledger → Call → Result (Unit {0}) Fault → Ledger → Type 0
+LedgerMakes b c (Err f) later = later ≡ b
+LedgerMakes b (Begin row e) (Ok u) later = Written (hold_line row e ∷ []) b later
+LedgerMakes b (Commit row) (Ok u) later = Turned Post b later row
+LedgerMakes b (Drop row) (Ok u) later = Turned Release b later row
+LedgerMakes b (Undo row) (Ok u) later = Turned Contra b later row
+
+-- what calls can make of a ledger: the old lines are a prefix of the new ones
+pub record LedgerGoes (before later : Ledger) : Type 0 where
+  pub lines : take (length (lines_of before)) (lines_of later) ≡ lines_of before

@@ -1,10 +1,9 @@
 -- The balance, by the lines and by the rows. Assumes nothing.
 use Rattle.std.specs.Prelude.{ℕ, zero, suc, cond, List, ℤ, pos, ◌+ℤ◌, neg_ℤ, Some, None, fold, Option}
 use Rattle.values.specs.Numbers.{same_host_state}
-use Rattle.values.specs.declared.Entry.{Entry}
 use Rattle.values.specs.declared.HostState.TheVariants.{Standing}
 use Rattle.host.specs.Keys.{RowKey, key_of, rows_most}
-use Rattle.host.specs.View.{View}
+use Rattle.host.specs.Known.{Known, KnownRow}
 use Rattle.ledger.specs.declared.lines.Mark.{Mark}
 use Rattle.ledger.specs.declared.lines.Mark.TheVariants.{Hold, Post, Contra, Release}
 use Rattle.ledger.specs.declared.lines.Line.{Line}
@@ -14,10 +13,6 @@ use Rattle.ledger.specs.Lines.{last_of, state_by, lines_due}
 abbrev pub number_of : Option ℤ → ℤ
 number_of None = pos 0
 number_of (Some n) = n
-
-abbrev pub amount_of : Option Entry → ℤ
-amount_of None = pos 0
-amount_of (Some e) = number_of e.number
 
 -- what a mark makes of an amount in the balance
 abbrev pub marked : Mark → ℤ → ℤ
@@ -38,13 +33,14 @@ unfoldable pub sum_rows : ℕ → (RowKey → ℤ) → ℤ
 sum_rows zero f = pos 0
 sum_rows (suc n) f = sum_rows n f +ℤ f (key_of (suc n))
 
--- the fee of a row that stands, else 0
-abbrev pub standing_fee : View → RowKey → ℤ
-standing_fee v row = cond (same_host_state (v.state row) Standing) (amount_of (v.entry row)) (pos 0)
+-- the number of a known row that stands, else 0
+abbrev pub standing_number : Option KnownRow → ℤ
+standing_number None = pos 0
+standing_number (Some r) = cond (same_host_state r.state Standing) (number_of r.entry.number) (pos 0)
 
--- the sum of the fees that stand
-abbrev pub standing_fees : View → ℤ
-standing_fees v = sum_rows rows_most (standing_fee v)
+-- the sum of the numbers of the rows that stand
+abbrev pub standing_sum : Known → ℤ
+standing_sum rows = sum_rows rows_most (λ row. standing_number (rows row))
 
 -- how many more lines the rows so far may need
 abbrev pub reserved : List Line → ℤ

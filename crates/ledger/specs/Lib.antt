@@ -1,3 +1,4 @@
 pub mod Lines
 pub mod Fees
 pub mod Book
+pub mod Laws

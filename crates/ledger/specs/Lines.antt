@@ -1,5 +1,6 @@
 -- A ledger's lines, in the order in which they were written. Assumes nothing.
 use Rattle.std.specs.Prelude.{◌≡◌, ℕ, Bool, true, false, cond, List, [], ◌∷◌, suc, Some, None, fold, count_by, Option}
+use Rattle.std.specs.List.{list_all}
 use Rattle.values.specs.Numbers.{same_kind}
 use Rattle.values.specs.declared.Entry.{Entry}
 use Rattle.values.specs.declared.Kind.TheVariants.{Fee}
@@ -21,6 +22,13 @@ state_at Hold = Open
 state_at Post = Standing
 state_at Contra = Reversed
 state_at Release = Void
+
+-- each line is of a fee
+abbrev pub is_fee : Entry → Bool
+is_fee e = same_kind e.kind Fee
+
+abbrev pub fees : List Line → Bool
+fees ls = list_all (λ l. is_fee l.entry) ls
 
 -- the last line of a row
 abbrev pub last_of : List Line → RowKey → Option Line

@@ -4,6 +4,7 @@ pub mod Books
 pub mod Falls
 pub mod Fit
 pub mod Hosts
+pub mod Belonging
 pub mod Kept
 pub mod Law
 pub mod Listing

@@ -8,7 +8,8 @@ use Rattle.values.specs.declared.Mode.TheVariants.{Partial}
 use Rattle.values.specs.declared.Phase.TheVariants.{Forward}
 use Rattle.values.specs.declared.RowState.{RowState}
 use Rattle.values.specs.declared.RowState.TheVariants.{Absent, Running, Committed, Dropped, Due, Undone, PassedOver}
-use Rattle.host.specs.Keys.{key_of}
+use Rattle.host.specs.Keys.{key_of, number_of, is_of_sheet}
+use Rattle.host.specs.Known.{Known, KnownRow, known_row}
 use Rattle.host.specs.View.{View}
 use Rattle.model.specs.Search.{has}
 use Rattle.model.specs.Chart.{Chart}
@@ -103,3 +104,11 @@ entry_of PassedOver e = Some e
 pub record HostFollows (s : Sheet) (v : View) : Type 0 where
   pub states : (k : ℕ) → v.state (key_of k) ≡ host_state_of (s.rows.state k)
   pub entries : (k : ℕ) → v.entry (key_of k) ≡ entry_of (s.rows.state k) (s.rows.entry k)
+
+-- row k of a sheet as a host knows it
+abbrev pub row_known : Sheet → ℕ → Option KnownRow
+row_known s k = known_row (host_state_of (s.rows.state k)) (entry_of (s.rows.state k) (s.rows.entry k))
+
+-- under the keys of its rows a sheet's rows, and under all other keys what was known before
+abbrev pub with_rows_known : Sheet → Known → Known
+with_rows_known s before key = cond (is_of_sheet key) (row_known s (number_of key)) (before key)

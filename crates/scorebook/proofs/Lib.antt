@@ -1,3 +1,4 @@
 pub mod Placed
 pub mod Shows
 pub mod Turned
+pub mod Growing

@@ -14,7 +14,7 @@ use Rattle.host.proofs.Checks.{accepted_moves, accepted_begins}
 use Rattle.host.proofs.Ext.{view_ext}
 use Rattle.scorebook.specs.declared.records.Record.{Record}
 use Rattle.scorebook.specs.Records.{find_in, turned, opened, state_in, well, booked}
-use Rattle.scorebook.specs.Sounds.{find_outside, find_known}
+use Rattle.scorebook.specs.Laws.{find_outside, find_known}
 use Rattle.scorebook.proofs.Turned.{state_turned, entry_turned, find_push}
 
 -- one record turned is one row moved

@@ -1,13 +1,14 @@
 -- One record turned, and one record more, among a book's records. Assumes nothing.
 use Rattle.std.specs.Prelude.{◌≡◌, ℕ, ◌<◌, ◌≤◌, true, false, cond, List, [], ◌∷◌, ◌++◌, length, get_or, set, is_some, Some, None, slice_index_or, slice_set, refl}
 use Rattle.std.specs.List.{position_or_len}
-use Rattle.std.proofs.Common.{ap, ◌∙◌, arith}
+use Rattle.std.proofs.Common.{ap, ap₂, ◌∙◌, ◌&&◌, arith}
+use Rattle.std.proofs.lemmas.List.Folds.{list_all-append}
 use Rattle.std.proofs.lemmas.Bool.Decides.{nat_tests}
 use Rattle.values.specs.declared.HostState.{HostState}
 use Rattle.host.specs.Keys.{RowKey, same_row, is_row}
 use Rattle.host.specs.View.{is_unknown}
 use Rattle.scorebook.specs.declared.records.Record.{Record}
-use Rattle.scorebook.specs.Records.{find_in, place_in, turned, with_state, state_in, entry_in, well}
+use Rattle.scorebook.specs.Records.{find_in, place_in, turned, with_state, state_in, entry_in, is_score, scores, well}
 
 -- no entry changes
 pub entry_turned : (xs : List Record) (row : RowKey) (to : HostState) (n : RowKey)
@@ -44,6 +45,15 @@ pub well_push : (xs : List Record) (r : Record) → well xs ≡ true → is_row 
 well_push [] r w i k e = grind (arith, nat_tests)
 well_push (x ∷ xs) r w i k e =
     let ih = well_push xs r in let p = find_push xs r x.row in grind (arith, nat_tests)
+
+-- each record stays one of a score
+pub scores_turned : (xs : List Record) (row : RowKey) (to : HostState) → scores xs ≡ true → scores (turned xs row to) ≡ true
+scores_turned [] row to h = refl
+scores_turned (x ∷ xs) row to h = let ih = scores_turned xs row to in grind arith
+
+pub scores_push : (xs : List Record) (r : Record) → scores xs ≡ true → is_score r.entry ≡ true → scores (xs ++ r ∷ []) ≡ true
+scores_push xs r h k =
+    list_all-append (λ (x : Record). is_score x.entry) xs (r ∷ []) ∙ ap₂ (λ a b. a && (b && true)) h k
 
 -- where a record stands, or that there is none
 pub placed : (xs : List Record) (row : RowKey) (i : ℕ) → Some i ≡ place_in xs row

@@ -1,14 +1,17 @@
 -- A score book: its records in use, the rest of its table, what it shows, and what its calls do. Assumes nothing.
-use Rattle.std.specs.Prelude.{◌≡◌, ℕ, ◌-◌, min, List, [], ◌∷◌, ◌++◌, length, drop}
-use Rattle.values.specs.Checks.{first_fault, after}
+use Rattle.std.specs.Prelude.{◌≡◌, ℕ, ◌-◌, min, List, [], ◌∷◌, ◌++◌, length, drop, take, map, Ok, Err, Result}
 use Rattle.values.specs.declared.Entry.{Entry}
+use Rattle.values.specs.declared.Fault.{Fault}
 use Rattle.values.specs.declared.HostState.{HostState}
+use Rattle.values.specs.declared.HostState.TheVariants.{Standing, Void, Reversed}
 use Rattle.host.specs.Keys.{RowKey, rows_most}
 use Rattle.host.specs.Table.{capacity_of}
-use Rattle.host.specs.View.{View, begin_checks, move_checks}
+use Rattle.host.specs.View.{View}
+use Rattle.host.specs.declared.calls.Call.{Call}
+use Rattle.host.specs.declared.calls.Call.TheVariants.{Begin, Commit, Drop, Undo}
 use Rattle.scorebook.specs.declared.records.Record.{Record}
 use Rattle.scorebook.specs.declared.book.ScoreBook.{ScoreBook}
-use Rattle.scorebook.specs.Records.{booked, turned, opened}
+use Rattle.scorebook.specs.Records.{booked, turned, opened, named}
 
 -- the records in use, in the order of their beginning
 abbrev pub records_of : ScoreBook → List Record
@@ -25,14 +28,24 @@ free_of b = min rows_most (capacity_of b.table) - length b.table.used
 abbrev pub book_view : ScoreBook → View
 book_view b = booked (free_of b) (records_of b)
 
--- begin puts the new record after the old ones, in place of the first unused one
-pub record Adds (before later : ScoreBook) (row : RowKey) (e : Entry) : Type 0 where
-  pub records : records_of later
-      ≡ after (first_fault (begin_checks (book_view before) row e.kind)) (records_of before) (records_of before ++ opened row e ∷ [])
-  pub rest : rest_of later ≡ after (first_fault (begin_checks (book_view before) row e.kind)) (rest_of before) (drop 1 (rest_of before))
-
--- the other moves change the state of one record and nothing else
-pub record Turns (from to : HostState) (before later : ScoreBook) (row : RowKey) : Type 0 where
-  pub records : records_of later
-      ≡ after (first_fault (move_checks from (book_view before) row)) (records_of before) (turned (records_of before) row to)
+-- one record in another state, and nothing else
+pub record Turned (to : HostState) (before later : ScoreBook) (row : RowKey) : Type 0 where
+  pub records : records_of later ≡ turned (records_of before) row to
   pub rest : rest_of later ≡ rest_of before
+
+-- the new record after the old ones, in place of the first unused one
+pub record Added (before later : ScoreBook) (row : RowKey) (e : Entry) : Type 0 where
+  pub records : records_of later ≡ records_of before ++ opened row e ∷ []
+  pub rest : rest_of later ≡ drop 1 (rest_of before)
+
+-- what a call makes of a book; a declined one changes nothing
+abbrev pub BookMakes : ScoreBook → Call → Result (Unit {0}) Fault → ScoreBook → Type 0
+BookMakes b c (Err f) later = later ≡ b
+BookMakes b (Begin row e) (Ok u) later = Added b later row e
+BookMakes b (Commit row) (Ok u) later = Turned Standing b later row
+BookMakes b (Drop row) (Ok u) later = Turned Void b later row
+BookMakes b (Undo row) (Ok u) later = Turned Reversed b later row
+
+-- what calls can make of a book: each record stays at its place, in what state ever, and others may come after
+pub record BookGoes (before later : ScoreBook) : Type 0 where
+  pub records : take (length (records_of before)) (map named (records_of later)) ≡ map named (records_of before)

@@ -1,3 +1,3 @@
 pub mod Records
 pub mod Book
-pub mod Sounds
+pub mod Laws

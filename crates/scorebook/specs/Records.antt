@@ -1,6 +1,6 @@
 -- A score book's records, in the order of their beginning. Assumes nothing.
 use Rattle.std.specs.Prelude.{ℕ, Bool, true, false, cond, not, ◌&&◌, List, [], ◌∷◌, is_some, Some, None, Option}
-use Rattle.std.specs.List.{find, position}
+use Rattle.std.specs.List.{find, list_all, position}
 use Rattle.values.specs.Numbers.{same_kind}
 use Rattle.values.specs.declared.Entry.{Entry}
 use Rattle.values.specs.declared.Kind.TheVariants.{Score}
@@ -26,6 +26,10 @@ abbrev pub turned : List Record → RowKey → HostState → List Record
 turned [] row to = []
 turned (r ∷ rs) row to = cond (same_row r.row row) (with_state to r ∷ rs) (r ∷ turned rs row to)
 
+-- what of a record never changes
+abbrev pub named : Record → Record
+named r = with_state Open r
+
 -- the record of a row that begins
 abbrev pub opened : RowKey → Entry → Record
 opened row e = record { row = row; entry = e; state = Open }
@@ -42,6 +46,13 @@ entry_in (Some r) = Some r.entry
 abbrev pub well : List Record → Bool
 well [] = true
 well (r ∷ rs) = is_row r.row && (not (is_unknown r.state) && (not (is_some (find_in rs r.row)) && well rs))
+
+-- each record is of a score
+abbrev pub is_score : Entry → Bool
+is_score e = same_kind e.kind Score
+
+abbrev pub scores : List Record → Bool
+scores rs = list_all (λ r. is_score r.entry) rs
 
 -- what a book with these records shows, where it has room for so many more
 abbrev pub booked : ℕ → List Record → View

@@ -2,7 +2,7 @@
 ghost use Rattle.std.specs.Prelude.{◌≡◌, ◌≤◌, true, length};
 ghost use Rattle.host.specs.Keys.{RowKey, rows_most};
 ghost use Rattle.host.specs.Places.{place_for};
-ghost use Rattle.scorebook.specs.Records.{place_in, well};
+ghost use Rattle.scorebook.specs.Records.{place_in, scores, well};
 
 use crate::records::Record;
 use host::{Places, Table};
@@ -17,5 +17,6 @@ pub struct ScoreBook {
     places: Places,
     ghost within: { length table.used ≤ rows_most },
     ghost sound: { well table.used ≡ true },
+    ghost scores: { scores table.used ≡ true },
     ghost placed: { (row : RowKey) → place_for places row ≡ place_in table.used row },
 }

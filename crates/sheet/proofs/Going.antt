@@ -1,15 +1,17 @@
 -- What events carry on. Assumes nothing.
-use Rattle.std.proofs.Common.{◌≡◌, ℕ, Bool, map, ◌+◌, ◌<◌, ◌≤◌, List, [], ◌∷◌, ◌++◌, length, get_or, sym, refl, ap, ◌∙◌, subst, arith}
+use Rattle.std.proofs.Common.{◌≡◌, ℕ, Bool, map, ◌+◌, ◌<◌, ◌≤◌, List, [], ◌∷◌, ◌++◌, length, get_or, Some, None, Option, sym, refl, ap, ◌∙◌, subst, arith}
 use Rattle.std.specs.List.{zip}
 use Rattle.std.proofs.lemmas.List.{append-nil, append_assoc, length_push, map-append}
 use Rattle.values.specs.declared.Answer.{Answer}
+use Rattle.values.specs.declared.Fault.{Fault}
+use Rattle.host.specs.Commands.{Left}
 use Rattle.host.specs.View.{View}
 use Rattle.model.specs.Chart.{Chart}
 use Rattle.model.specs.Run.{World, Event as Happening, does, History, Leads, nothing, one_more}
 use Rattle.model.proofs.Law.{law_over_every_run}
 use Rattle.sheet.specs.declared.events.Event.{Event}
 use Rattle.sheet.specs.declared.events.Taken.{Taken}
-use Rattle.sheet.specs.Happenings.{happening, history_of, Steers, Along}
+use Rattle.sheet.specs.Happenings.{happening, history_of, command_of, AtHost, Steered, Along}
 use Rattle.sheet.specs.Happenings.{nothing as along_nothing, one_more as along_one}
 use Rattle.sheet.specs.Runs.{Does, GoesOn}
 
@@ -103,17 +105,33 @@ module _ {C : Type 0} where
             (subst (λ h. Leads c first h w') (sym (history_more es ts t e below here)) (leads_on c first gone.leads leads));
       }
 
-  module _ {X : Type 0} (view : X → View) (switches : X → List Bool) (leaves : X → C → X → Type 0) where
-    pub along_first : (first : X) (es : List (Event C)) (ts : List Taken) → ts ≡ [] → Along view switches leaves first (zip es ts) first
+  module _ {X : Type 0} (view : X → View) (goes : X → X → Type 0) (declines : X → C → Option Fault) (leaves : X → C → X → Type 0) where
+    pub along_first : (first : X) (es : List (Event C)) (ts : List Taken) → ts ≡ []
+        → Along view goes declines leaves first (zip es ts) first
     along_first first es ts none =
-        subst (λ l. Along view switches leaves first l first) (sym (ap (zip es) none ∙ zip_none es)) along_nothing
+        subst (λ l. Along view goes declines leaves first l first) (sym (ap (zip es) none ∙ zip_none es)) along_nothing
 
     pub along_more : (first x y : X) (es : List (Event C)) (at : ℕ) (ts : List Taken) (e : Event C) (ts' : List Taken) (t : Taken)
         → at < length es → e ≡ get_or es at e → length ts ≡ at → ts' ≡ ts ++ t ∷ []
-        → Steers switches leaves e x y → t.shut ≡ (view y).shut → Along view switches leaves first (zip es ts) x
-        → Along view switches leaves first (zip es ts') y
-    along_more first x y es at ts e ts' t low is told more steers shut along =
+        → AtHost view goes declines leaves e x t y → Along view goes declines leaves first (zip es ts) x
+        → Along view goes declines leaves first (zip es ts') y
+    along_more first x y es at ts e ts' t low is told more here_host along =
         let below : length ts < length es = omega (arith, low, told) in
         let here : e ≡ get_or es (length ts) e = subst (λ n. e ≡ get_or es n e) (sym told) is in
-        subst (λ l. Along view switches leaves first l y) (sym (ap (zip es) more ∙ zip_more es ts t e below here))
-        (along_one along e t steers shut)
+        subst (λ l. Along view goes declines leaves first l y) (sym (ap (zip es) more ∙ zip_more es ts t e below here))
+        (along_one along e t here_host)
+
+    -- what no call and no command undoes holds from the first host to the last
+    module _ (keeps : X → X → Type 0) (stays : (x : X) → keeps x x) (on : (x y z : X) → keeps x y → keeps y z → keeps x z)
+        (calls : (x y : X) → goes x y → keeps x y) (commands : (x : X) (c : C) (y : X) → leaves x c y → keeps x y) where
+      pub steered_keeps : (c : Option C) (x y : X) → Steered goes declines leaves x c y → keeps x y
+      steered_keeps None x y s = calls x y s
+      steered_keeps (Some c) x y s = left (declines x c) s
+        where
+          left : (f : Option Fault) → Left f leaves x c y → keeps x y
+          left None l = commands x c y l
+          left (Some f) l = subst (keeps x) (sym l) (stays x)
+
+      pub along_keeps : {first last : X} {h : List (Event C × Taken)} → Along view goes declines leaves first h last → keeps first last
+      along_keeps {first} along_nothing = stays first
+      along_keeps {first} (along_one {x = x} {y = y} a e t h) = on first x y (along_keeps a) (steered_keeps (command_of e) x y h.steered)

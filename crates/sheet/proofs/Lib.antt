@@ -8,6 +8,7 @@ pub mod Phases
 pub mod Clearing
 pub mod Running
 pub mod Going
+pub mod Belonging
 pub mod Puts
 pub mod Listing
 pub mod Lists

@@ -4,8 +4,9 @@ use Rattle.std.specs.List.{zip}
 use Rattle.values.specs.declared.Answer.{Answer}
 use Rattle.values.specs.declared.Answer.TheVariants.{Declined}
 use Rattle.values.specs.declared.Fault.{Fault}
+use Rattle.host.specs.Commands.{Left}
 use Rattle.host.specs.View.{View}
-use Rattle.model.specs.Run.{start, end, abort, undo, finish, park, resume, listing, reply, lend, control, History}
+use Rattle.model.specs.Run.{said, start, end, abort, undo, finish, park, resume, listing, reply, lend, control, History}
 use Rattle.model.specs.Run.{Event as Happening}
 use Rattle.sheet.specs.declared.events.Event.{Event}
 use Rattle.sheet.specs.declared.events.Event.TheVariants as event
@@ -49,17 +50,30 @@ command_of (event.Reply place) = None
 command_of (event.Lend sizes) = None
 command_of (event.Control c) = Some c
 
--- what an event leaves of the host's switches: a command what it says, and everything else all of them
-abbrev pub Steered : {X C : Type 0} → (X → List Bool) → (X → C → X → Type 0) → Option C → X → X → Type 0
-Steered switches leaves None before then = switches then ≡ switches before
-Steered switches leaves (Some c) before then = leaves before c then
+-- the fault with which the host declines a command, if it does; no other event has one
+abbrev pub refused : {X C : Type 0} → (X → C → Option Fault) → X → Option C → Option Fault
+refused declines before None = None
+refused declines before (Some c) = declines before c
 
-abbrev pub Steers : {X C : Type 0} → (X → List Bool) → (X → C → X → Type 0) → Event C → X → X → Type 0
-Steers switches leaves e before then = Steered switches leaves (command_of e) before then
+-- what an event makes of the host, in the host's own terms: a command leaves what the host says, and a call what calls can make of it
+abbrev pub Steered : {X C : Type 0} → (X → X → Type 0) → (X → C → Option Fault) → (X → C → X → Type 0) → X → Option C → X → Type 0
+Steered goes declines leaves before None then = goes before then
+Steered goes declines leaves before (Some c) then = Left (declines before c) leaves before c then
 
--- along events, each with what was told of it, from one host to another: each leaves the switches as it says, and it is
--- told whether the host was shut then
-pub data Along {X C : Type 0} (view : X → View) (switches : X → List Bool) (leaves : X → C → X → Type 0) (first : X) : List (Event C × Taken) → X → Type 0 where
-  nothing : Along view switches leaves first [] first
-  one_more : {h : List (Event C × Taken)} {x y : X} → Along view switches leaves first h x → (e : Event C) (t : Taken)
-      → Steers switches leaves e x y → t.shut ≡ (view y).shut → Along view switches leaves first (h ++ (e, t) ∷ []) y
+-- what an event makes of the host, and what is told of the host beside the answer: whether it is shut then, and the fault of a
+-- declined command
+pub record AtHost {X C : Type 0} (view : X → View) (goes : X → X → Type 0) (declines : X → C → Option Fault) (leaves : X → C → X → Type 0)
+    (e : Event C) (before : X) (t : Taken) (then : X) : Type 0 where
+  pub steered : Steered goes declines leaves before (command_of e) then
+  pub shut : t.shut ≡ (view then).shut
+  pub refused : t.refused ≡ refused declines before (command_of e)
+
+-- along events, each with what was told of it, from one host to another
+pub data Along {X C : Type 0} (view : X → View) (goes : X → X → Type 0) (declines : X → C → Option Fault) (leaves : X → C → X → Type 0) (first : X) : List (Event C × Taken) → X → Type 0 where
+  nothing : Along view goes declines leaves first [] first
+  one_more : {h : List (Event C × Taken)} {x y : X} → Along view goes declines leaves first h x → (e : Event C) (t : Taken)
+      → AtHost view goes declines leaves e x t y → Along view goes declines leaves first (h ++ (e, t) ∷ []) y
+
+-- what is told of an event in one: the fault of a declined command, or else the answer
+abbrev pub told_by : Taken → Answer
+told_by t = said t.refused t.answer

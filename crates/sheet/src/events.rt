@@ -1,5 +1,8 @@
 // Calls as values.
-use values::{Answer, Entry, Mode, TicketNumber};
+ghost use Rattle.std.specs.Prelude.{◌≡◌};
+ghost use Rattle.sheet.specs.Happenings.{told_by};
+
+use values::{Answer, Entry, Fault, Mode, TicketNumber};
 
 /// The lengths of the memory that is lent to calls.
 #[derive(Clone, Copy, PartialEq, Eq, Debug, Drop)]
@@ -54,9 +57,20 @@ pub enum Event<C> {
     },
 }
 
-/// What came of an event: its answer, and whether the host was shut then.
+/// What came of an event: its answer, whether the host was shut then, and the fault with which the host declined a command.
 #[derive(Clone, Copy, PartialEq, Eq, Debug, Drop)]
 pub struct Taken {
+    /// Of a command always "done": whether the host declined it stands beside.
     pub answer: Answer,
     pub shut: bool,
+    pub refused: Option<Fault>,
+}
+
+impl Taken {
+    /// What is told of the event in one: the fault of a declined command, or else the answer.
+    pub fn told(&self) -> Answer
+        ensures { result ≡ told_by self.now }
+    {
+        self.refused.map_or(self.answer, Answer::Declined)
+    }
 }

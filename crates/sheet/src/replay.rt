@@ -1,11 +1,13 @@
 // A competition, event after event.
-ghost use Rattle.std.specs.Prelude.{◌≡◌, ◌≢◌, ◌<◌, ◌≤◌, [], ◌∷◌, ◌++◌, length, None, vec_items, IfOk, OnErr, OnOk};
+ghost use Rattle.std.specs.Prelude.{◌≡◌, ◌≢◌, ℕ, ◌<◌, ◌≤◌, [], ◌∷◌, ◌++◌, length, None, vec_items, IfOk, OnErr, OnOk};
 ghost use Rattle.std.specs.List.{zip};
+ghost use Rattle.host.specs.View.{Fresh};
 ghost use Rattle.model.specs.Run.{world};
-ghost use Rattle.sheet.specs.Happenings.{history_of, Steers, Along};
+ghost use Rattle.model.specs.Sheet.{blank};
+ghost use Rattle.sheet.specs.Happenings.{history_of, AtHost, Along};
 ghost use Rattle.sheet.specs.Lent.{lent_of};
 ghost use Rattle.sheet.specs.SheetOf.{sheet_of, chart_of};
-ghost use Rattle.sheet.specs.Runs.{world_of, process_of, GoesOn};
+ghost use Rattle.sheet.specs.Runs.{world_of, process_of, GoesOn, Belong, StillBelong};
 
 use crate::events::{Event, Taken};
 use crate::memory::Memory;
@@ -31,6 +33,8 @@ impl<X: Host> Competition<X> {
         ensures world { world_of X.Host.view result ≡ world (sheet_of sheet) (X.Host.view host) (lent_of memory) }
         ensures process { process_of result ≡ chart_of sheet }
         ensures host { result.host ≡ host }
+        ensures belong { (serial : ℕ) → sheet_of sheet ≡ blank serial → Fresh (X.Host.view host)
+            → Belong X.Host.holds (X.Host.view host) result }
     {
         Competition {
             sheet,
@@ -82,22 +86,24 @@ pub struct Replayed {
     pub stopped: Option<AllocError>,
 }
 
-impl<X: Controls> Competition<X>
-where
-    X::Command: Copy,
-{
+impl<X: Controls> Competition<X> {
     /// Takes one event: a call is made, other memory is lent, or the host is commanded. Where memory runs out nothing changes.
     pub fn take(&mut self, heap: Global, event: &Event<X::Command>) -> Result<Taken, AllocError>
         ensures goes { IfOk result (λ t. GoesOn (process_of self.old) (world_of X.Host.view self.old)
             (history_of (event.now ∷ []) (t ∷ [])) (world_of X.Host.view self.new)) }
-        ensures shut { IfOk result (λ t. t.shut ≡ (X.Host.view self.new.host).shut) }
-        ensures steered { IfOk result (λ _. Steers X.Host.switches X.Controls.leaves event.now self.old.host self.new.host) }
+        ensures host { IfOk result (λ t. AtHost X.Host.view X.Host.goes X.Controls.declines X.Controls.leaves
+            event.now self.old.host t self.new.host) }
+        ensures belong { StillBelong (process_of self.old) X.Host.view X.Host.holds self.old self.new }
         ensures same { OnErr result (self.new ≡ self.old) }
         ensures process { process_of self.new ≡ process_of self.old }
     {
-        let answer = self.answer(heap, event)?;
+        let (answer, refused) = self.answer(heap, event)?;
         let shut = self.host.is_shut();
-        Ok(Taken { answer, shut })
+        Ok(Taken {
+            answer,
+            shut,
+            refused,
+        })
     }
 
     // Takes one event and keeps what came of it: there is a place for that before anything is done.
@@ -108,8 +114,7 @@ where
         taken: &mut Vec<Taken>,
     ) -> Result<(), AllocError>
         ensures goes { OnOk result ((t : Taken) × (vec_items taken.new ≡ vec_items taken.old ++ t ∷ [])
-            × (t.shut ≡ (X.Host.view self.new.host).shut)
-            × Steers X.Host.switches X.Controls.leaves event.now self.old.host self.new.host
+            × AtHost X.Host.view X.Host.goes X.Controls.declines X.Controls.leaves event.now self.old.host t self.new.host
             × GoesOn (process_of self.old) (world_of X.Host.view self.old)
             (history_of (event.now ∷ []) (t ∷ [])) (world_of X.Host.view self.new)) }
         ensures same { OnErr result (self.new ≡ self.old) }
@@ -126,8 +131,9 @@ where
     pub fn replay(&mut self, heap: Global, events: &[Event<X::Command>]) -> Replayed
         ensures goes { GoesOn (process_of self.old) (world_of X.Host.view self.old)
             (history_of events.now (vec_items result.taken)) (world_of X.Host.view self.new) }
-        ensures steered { Along X.Host.view X.Host.switches X.Controls.leaves self.old.host
+        ensures host { Along X.Host.view X.Host.goes X.Controls.declines X.Controls.leaves self.old.host
             (zip events.now (vec_items result.taken)) self.new.host }
+        ensures belong { StillBelong (process_of self.old) X.Host.view X.Host.holds self.old self.new }
         ensures all { result.stopped ≡ None → length (vec_items result.taken) ≡ length events.now }
         ensures some { length (vec_items result.taken) ≤ length events.now }
         ensures left { (result.stopped ≢ None) → length (vec_items result.taken) < length events.now }

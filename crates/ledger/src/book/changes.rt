@@ -1,10 +1,11 @@
 // The lines of a ledger, and how one is added.
 ghost use Rattle.std.specs.Prelude.{◌≡◌, ◌+◌, ◌-◌, ◌≤◌, true, [], ◌∷◌, ◌++◌, drop, if◌then◌else◌};
 ghost use Rattle.host.specs.Keys.{is_row};
+ghost use Rattle.host.specs.Known.{known_by};
 ghost use Rattle.host.specs.Table.{capacity_of};
 ghost use Rattle.ledger.specs.Book.{ledger_view, lines_of, rest_of, free_of, rows_in};
-ghost use Rattle.ledger.specs.Fees.{posted, standing_fees};
-ghost use Rattle.ledger.specs.Lines.{last_of, Follows, begun_in, is_hold};
+ghost use Rattle.ledger.specs.Fees.{posted, standing_sum};
+ghost use Rattle.ledger.specs.Lines.{last_of, Follows, begun_in, is_hold, is_fee, fees};
 
 use crate::book::Ledger;
 use crate::lines::{LINES, Line, total};
@@ -13,7 +14,8 @@ use host::RowKey;
 impl Ledger {
     /// The lines written so far, in the order in which they were written.
     pub fn lines(&self) -> &[Line]
-        ensures { result.now ≡ lines_of self.now }
+        ensures lines { result.now ≡ lines_of self.now }
+        ensures fees { fees result.now ≡ true }
     {
         self.table.used()
     }
@@ -21,7 +23,7 @@ impl Ledger {
     /// Posts less contras, which is the sum of the fees that stand.
     pub fn balance(&self) -> i64
         ensures posts { result ≡ posted (lines_of self.now) }
-        ensures stands { result ≡ standing_fees (ledger_view self.now) }
+        ensures stands { result ≡ standing_sum (known_by (ledger_view self.now)) }
     {
         total(self.lines())
     }
@@ -45,6 +47,7 @@ impl Ledger {
     // Writes one more line.
     pub(super) fn add(&mut self, new: Line)
         requires row { is_row new.row ≡ true }
+        requires fee { is_fee new.entry ≡ true }
         requires follows { Follows (last_of (lines_of self.old) new.row) new }
         requires room { begun_in (lines_of self.old) + (if is_hold new.mark then 1 else 0) ≤ rows_in (capacity_of self.old.table) }
         ensures lines { lines_of self.new ≡ lines_of self.old ++ new ∷ [] }

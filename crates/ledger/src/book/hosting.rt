@@ -1,13 +1,15 @@
 // The ledger as a host.
-ghost use Rattle.std.specs.Prelude.{◌≡◌, true, false, [], ◌∷◌, ◌++◌, vec_len};
-ghost use Rattle.values.specs.Checks.{first_fault};
+ghost use Rattle.std.specs.Prelude.{◌≡◌, true, false, [], ◌∷◌, ◌++◌, vec_len, None, IfOk, OnErr};
 ghost use Rattle.values.specs.declared.HostState.TheVariants.{Open, Standing, Void, Reversed};
 ghost use Rattle.values.specs.declared.Kind.TheVariants.{Fee};
-ghost use Rattle.host.specs.View.{Begins, Moves, Fresh, blank, begin_checks};
-ghost use Rattle.ledger.specs.Book.{ledger_view, lines_of, rest_of, rows_in, Writes, Turns};
-ghost use Rattle.ledger.specs.Lines.{may_follow, state_at, hold_line};
+ghost use Rattle.host.specs.Commands.{LeavesAll};
+ghost use Rattle.host.specs.Known.{Alone};
+ghost use Rattle.host.specs.Laws.{alone_whole, alone_empty, alone_sorted, nothing_moves};
+ghost use Rattle.host.specs.View.{Moves, Fresh, blank};
+ghost use Rattle.ledger.specs.Book.{ledger_view, lines_of, rest_of, rows_in, Turned, LedgerMakes, LedgerGoes};
+ghost use Rattle.ledger.specs.Laws.{ledger_sound, ledger_stays, ledger_goes_on};
+ghost use Rattle.ledger.specs.Lines.{may_follow, state_at};
 ghost use Rattle.ledger.specs.declared.lines.Mark.TheVariants.{Hold, Post, Contra, Release};
-ghost use Rattle.std.proofs.Common.{rules};
 
 use crate::book::Ledger;
 use crate::lines::{Line, Mark};
@@ -45,7 +47,9 @@ impl Ledger {
     fn turn(&mut self, row: RowKey, from: Mark, to: Mark) -> Result<(), Fault>
         requires { may_follow from to ≡ true }
         ensures does { Moves (state_at from) (state_at to) (ledger_view self.old) row result (ledger_view self.new) }
-        ensures writes { Turns from to self.old self.new row }
+        ensures turned { IfOk result (λ _. Turned to self.old self.new row) }
+        ensures declined { OnErr result (self.new ≡ self.old) }
+        ensures goes { LedgerGoes self.old self.new }
     {
         match self.last(row) {
             Some(line) if line.mark == from => {
@@ -64,15 +68,25 @@ impl Ledger {
 impl Host for Ledger {
     ghost view = { ledger_view };
 
-    ghost switches = { λ _. [] };
+    ghost makes = { LedgerMakes };
 
-    ghost sound = { Prim.search rules };
+    ghost goes = { LedgerGoes };
 
-    fn begin(&mut self, row: RowKey, entry: Entry) -> Result<(), Fault>
-        ensures does { Begins (ledger_view self.old) row entry result (ledger_view self.new) }
-        ensures writes { Writes (first_fault (begin_checks (ledger_view self.old) row entry.kind))
-            (hold_line row entry ∷ []) self.old self.new }
-    {
+    ghost holds = { Alone ledger_view };
+
+    ghost sound = { ledger_sound };
+
+    ghost stays = { ledger_stays };
+
+    ghost goes_on = { ledger_goes_on };
+
+    ghost whole = { alone_whole ledger_view };
+
+    ghost empty = { alone_empty ledger_view ledger_sound };
+
+    ghost stays_sorted = { alone_sorted ledger_view LedgerGoes };
+
+    fn begin(&mut self, row: RowKey, entry: Entry) -> Result<(), Fault> {
         self.may_begin(row, entry.kind)?;
         self.add(Line {
             mark: Mark::Hold,
@@ -82,24 +96,15 @@ impl Host for Ledger {
         Ok(())
     }
 
-    fn commit(&mut self, row: RowKey) -> Result<(), Fault>
-        ensures does { Moves Open Standing (ledger_view self.old) row result (ledger_view self.new) }
-        ensures writes { Turns Hold Post self.old self.new row }
-    {
+    fn commit(&mut self, row: RowKey) -> Result<(), Fault> {
         self.turn(row, Mark::Hold, Mark::Post)
     }
 
-    fn drop_row(&mut self, row: RowKey) -> Result<(), Fault>
-        ensures does { Moves Open Void (ledger_view self.old) row result (ledger_view self.new) }
-        ensures writes { Turns Hold Release self.old self.new row }
-    {
+    fn drop_row(&mut self, row: RowKey) -> Result<(), Fault> {
         self.turn(row, Mark::Hold, Mark::Release)
     }
 
-    fn undo(&mut self, row: RowKey) -> Result<(), Fault>
-        ensures does { Moves Standing Reversed (ledger_view self.old) row result (ledger_view self.new) }
-        ensures writes { Turns Post Contra self.old self.new row }
-    {
+    fn undo(&mut self, row: RowKey) -> Result<(), Fault> {
         self.turn(row, Mark::Post, Mark::Contra)
     }
 
@@ -125,11 +130,15 @@ impl Host for Ledger {
 impl Controls for Ledger {
     type Command = NoCommand;
 
+    ghost declines = { λ _ _. None };
+
     ghost shuts = { λ _ _. false };
 
-    ghost leaves = { λ old _ new. new ≡ old };
+    ghost leaves = { LeavesAll };
 
-    fn control(&mut self, _command: NoCommand) -> bool {
-        self.is_shut()
+    ghost moves_no_row = { nothing_moves (Alone ledger_view) };
+
+    fn control(&mut self, _command: &NoCommand) -> Result<bool, Fault> {
+        Ok(self.is_shut())
     }
 }

@@ -3,7 +3,7 @@ ghost use Rattle.std.specs.Prelude.{◌≡◌, ◌-◌, ◌<◌, true, false, []
 ghost use Rattle.host.specs.Keys.{is_row};
 ghost use Rattle.host.specs.View.{is_unknown};
 ghost use Rattle.scorebook.specs.Book.{records_of, rest_of, free_of};
-ghost use Rattle.scorebook.specs.Records.{find_in, turned};
+ghost use Rattle.scorebook.specs.Records.{find_in, turned, is_score, scores};
 
 use crate::book::ScoreBook;
 use crate::records::Record;
@@ -13,7 +13,8 @@ use values::HostState;
 impl ScoreBook {
     /// The records in use, in the order of their beginning.
     pub fn records(&self) -> &[Record]
-        ensures { result.now ≡ records_of self.now }
+        ensures records { result.now ≡ records_of self.now }
+        ensures scores { scores result.now ≡ true }
     {
         self.table.used()
     }
@@ -38,6 +39,7 @@ impl ScoreBook {
     pub(super) fn add(&mut self, new: Record)
         requires space { 0 < free_of self.old }
         requires row { is_row new.row ≡ true }
+        requires score { is_score new.entry ≡ true }
         requires known { is_unknown new.state ≡ false }
         requires unused { find_in (records_of self.old) new.row ≡ None }
         ensures records { records_of self.new ≡ records_of self.old ++ new ∷ [] }

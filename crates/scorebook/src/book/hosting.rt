@@ -1,11 +1,13 @@
 // The score book as a host.
-ghost use Rattle.std.specs.Prelude.{◌≡◌, min, false, [], ◌++◌, vec_len, ◌==◌};
-ghost use Rattle.values.specs.declared.HostState.TheVariants.{Open, Standing, Void, Reversed};
+ghost use Rattle.std.specs.Prelude.{◌≡◌, min, false, [], ◌++◌, vec_len, ◌==◌, None, IfOk, OnErr};
 ghost use Rattle.values.specs.declared.Kind.TheVariants.{Score};
 ghost use Rattle.host.specs.Keys.{rows_most};
-ghost use Rattle.host.specs.View.{Begins, Moves, Fresh, blank, is_unknown};
-ghost use Rattle.scorebook.specs.Book.{book_view, records_of, rest_of, Adds, Turns};
-ghost use Rattle.scorebook.specs.Sounds.{booked_sound};
+ghost use Rattle.host.specs.Commands.{LeavesAll};
+ghost use Rattle.host.specs.Known.{Alone};
+ghost use Rattle.host.specs.Laws.{alone_whole, alone_empty, alone_sorted, nothing_moves};
+ghost use Rattle.host.specs.View.{Moves, Fresh, blank, is_unknown};
+ghost use Rattle.scorebook.specs.Book.{book_view, records_of, rest_of, Turned, BookMakes, BookGoes};
+ghost use Rattle.scorebook.specs.Laws.{book_sound, book_stays, book_goes_on};
 
 use crate::book::ScoreBook;
 use crate::records::Record;
@@ -39,7 +41,9 @@ impl ScoreBook {
         requires was_known { is_unknown from ≡ false }
         requires is_known { is_unknown to ≡ false }
         ensures does { Moves from to (book_view self.old) row result (book_view self.new) }
-        ensures turns { Turns from to self.old self.new row }
+        ensures turned { IfOk result (λ _. Turned to self.old self.new row) }
+        ensures declined { OnErr result (self.new ≡ self.old) }
+        ensures goes { BookGoes self.old self.new }
     {
         self.may_move(row, from)?;
         self.restate(row, to);
@@ -50,14 +54,25 @@ impl ScoreBook {
 impl Host for ScoreBook {
     ghost view = { book_view };
 
-    ghost switches = { λ _. [] };
+    ghost makes = { BookMakes };
 
-    ghost sound = { λ b. booked_sound _ _ b.sound };
+    ghost goes = { BookGoes };
 
-    fn begin(&mut self, row: RowKey, entry: Entry) -> Result<(), Fault>
-        ensures does { Begins (book_view self.old) row entry result (book_view self.new) }
-        ensures adds { Adds self.old self.new row entry }
-    {
+    ghost holds = { Alone book_view };
+
+    ghost sound = { book_sound };
+
+    ghost stays = { book_stays };
+
+    ghost goes_on = { book_goes_on };
+
+    ghost whole = { alone_whole book_view };
+
+    ghost empty = { alone_empty book_view book_sound };
+
+    ghost stays_sorted = { alone_sorted book_view BookGoes };
+
+    fn begin(&mut self, row: RowKey, entry: Entry) -> Result<(), Fault> {
         self.may_begin(row, entry.kind)?;
         self.add(Record {
             row,
@@ -67,24 +82,15 @@ impl Host for ScoreBook {
         Ok(())
     }
 
-    fn commit(&mut self, row: RowKey) -> Result<(), Fault>
-        ensures does { Moves Open Standing (book_view self.old) row result (book_view self.new) }
-        ensures turns { Turns Open Standing self.old self.new row }
-    {
+    fn commit(&mut self, row: RowKey) -> Result<(), Fault> {
         self.turn(row, HostState::Open, HostState::Standing)
     }
 
-    fn drop_row(&mut self, row: RowKey) -> Result<(), Fault>
-        ensures does { Moves Open Void (book_view self.old) row result (book_view self.new) }
-        ensures turns { Turns Open Void self.old self.new row }
-    {
+    fn drop_row(&mut self, row: RowKey) -> Result<(), Fault> {
         self.turn(row, HostState::Open, HostState::Void)
     }
 
-    fn undo(&mut self, row: RowKey) -> Result<(), Fault>
-        ensures does { Moves Standing Reversed (book_view self.old) row result (book_view self.new) }
-        ensures turns { Turns Standing Reversed self.old self.new row }
-    {
+    fn undo(&mut self, row: RowKey) -> Result<(), Fault> {
         self.turn(row, HostState::Standing, HostState::Reversed)
     }
 
@@ -109,11 +115,15 @@ impl Host for ScoreBook {
 impl Controls for ScoreBook {
     type Command = NoCommand;
 
+    ghost declines = { λ _ _. None };
+
     ghost shuts = { λ _ _. false };
 
-    ghost leaves = { λ old _ new. new ≡ old };
+    ghost leaves = { LeavesAll };
 
-    fn control(&mut self, _command: NoCommand) -> bool {
-        self.is_shut()
+    ghost moves_no_row = { nothing_moves (Alone book_view) };
+
+    fn control(&mut self, _command: &NoCommand) -> Result<bool, Fault> {
+        Ok(self.is_shut())
     }
 }

@@ -15,7 +15,7 @@ impl<X: Host> Competition<X> {
     pub(crate) fn start(&mut self, step: u16, predecessors: &[u16], entry: Entry) -> Answer
         ensures does { Does (process_of self.old) (world_of X.Host.view self.old) (start step predecessors.now entry)
             result (world_of X.Host.view self.new) }
-        ensures switches { X.Host.switches self.new.host ≡ X.Host.switches self.old.host }
+        ensures goes { X.Host.goes self.old.host self.new.host }
         ensures process { process_of self.new ≡ process_of self.old }
     {
         row(self.sheet.start(&mut self.host, step, predecessors, entry))
@@ -23,7 +23,7 @@ impl<X: Host> Competition<X> {
 
     pub(crate) fn end(&mut self, row: u16) -> Answer
         ensures does { Does (process_of self.old) (world_of X.Host.view self.old) (end row) result (world_of X.Host.view self.new) }
-        ensures switches { X.Host.switches self.new.host ≡ X.Host.switches self.old.host }
+        ensures goes { X.Host.goes self.old.host self.new.host }
         ensures process { process_of self.new ≡ process_of self.old }
     {
         done(self.sheet.end(&mut self.host, row))
@@ -31,7 +31,7 @@ impl<X: Host> Competition<X> {
 
     pub(crate) fn abort(&mut self, mode: Mode) -> Answer
         ensures does { Does (process_of self.old) (world_of X.Host.view self.old) (abort mode) result (world_of X.Host.view self.new) }
-        ensures switches { X.Host.switches self.new.host ≡ X.Host.switches self.old.host }
+        ensures goes { X.Host.goes self.old.host self.new.host }
         ensures process { process_of self.new ≡ process_of self.old }
     {
         let Memory { column, line, .. } = &mut self.memory;
@@ -40,7 +40,7 @@ impl<X: Host> Competition<X> {
 
     pub(crate) fn undo(&mut self, number: TicketNumber, row: u16) -> Answer
         ensures does { Does (process_of self.old) (world_of X.Host.view self.old) (undo number row) result (world_of X.Host.view self.new) }
-        ensures switches { X.Host.switches self.new.host ≡ X.Host.switches self.old.host }
+        ensures goes { X.Host.goes self.old.host self.new.host }
         ensures process { process_of self.new ≡ process_of self.old }
     {
         let ticket = Ticket::new(number);
@@ -52,7 +52,7 @@ impl<X: Host> Competition<X> {
 
     pub(crate) fn finish(&mut self, number: TicketNumber) -> Answer
         ensures does { Does (process_of self.old) (world_of X.Host.view self.old) (finish number) result (world_of X.Host.view self.new) }
-        ensures switches { X.Host.switches self.new.host ≡ X.Host.switches self.old.host }
+        ensures goes { X.Host.goes self.old.host self.new.host }
         ensures process { process_of self.new ≡ process_of self.old }
     {
         ended(self.sheet.finish(Ticket::new(number)))
@@ -60,7 +60,7 @@ impl<X: Host> Competition<X> {
 
     pub(crate) fn park(&mut self, number: TicketNumber) -> Answer
         ensures does { Does (process_of self.old) (world_of X.Host.view self.old) (park number) result (world_of X.Host.view self.new) }
-        ensures switches { X.Host.switches self.new.host ≡ X.Host.switches self.old.host }
+        ensures goes { X.Host.goes self.old.host self.new.host }
         ensures process { process_of self.new ≡ process_of self.old }
     {
         ended(self.sheet.park(Ticket::new(number)))
@@ -68,7 +68,7 @@ impl<X: Host> Competition<X> {
 
     pub(crate) fn resume(&mut self) -> Answer
         ensures does { Does (process_of self.old) (world_of X.Host.view self.old) resume result (world_of X.Host.view self.new) }
-        ensures switches { X.Host.switches self.new.host ≡ X.Host.switches self.old.host }
+        ensures goes { X.Host.goes self.old.host self.new.host }
         ensures process { process_of self.new ≡ process_of self.old }
     {
         given(self.sheet.resume())
@@ -76,7 +76,7 @@ impl<X: Host> Competition<X> {
 
     pub(crate) fn listing(&mut self) -> Answer
         ensures does { Does (process_of self.old) (world_of X.Host.view self.old) listing result (world_of X.Host.view self.new) }
-        ensures switches { X.Host.switches self.new.host ≡ X.Host.switches self.old.host }
+        ensures goes { X.Host.goes self.old.host self.new.host }
         ensures process { process_of self.new ≡ process_of self.old }
     {
         let Memory {
@@ -91,7 +91,7 @@ impl<X: Host> Competition<X> {
 
     pub(crate) fn reply(&mut self, place: usize) -> Answer
         ensures does { Does (process_of self.old) (world_of X.Host.view self.old) (reply place) result (world_of X.Host.view self.new) }
-        ensures switches { X.Host.switches self.new.host ≡ X.Host.switches self.old.host }
+        ensures goes { X.Host.goes self.old.host self.new.host }
         ensures process { process_of self.new ≡ process_of self.old }
     {
         done(self.sheet.reply(place, &mut self.memory.buffer))

@@ -1,7 +1,9 @@
 // An event: a call, other memory, or a command for the host.
 ghost use Rattle.std.specs.Prelude.{◌≡◌, IfOk, OnErr};
+ghost use Rattle.values.specs.declared.Answer.TheVariants.{Done};
+ghost use Rattle.host.specs.Commands.{Left};
 ghost use Rattle.model.specs.Run.{lend, control};
-ghost use Rattle.sheet.specs.Happenings.{happening, Steers};
+ghost use Rattle.sheet.specs.Happenings.{happening, command_of, refused, Steered};
 ghost use Rattle.sheet.specs.Lent.{zeros};
 ghost use Rattle.sheet.specs.Runs.{world_of, process_of, Does};
 
@@ -10,12 +12,9 @@ use crate::events::{Event, Sizes};
 use crate::memory::Memory;
 use host::Controls;
 use std::alloc::{AllocError, Global};
-use values::Answer;
+use values::{Answer, Fault};
 
-impl<X: Controls> Competition<X>
-where
-    X::Command: Copy,
-{
+impl<X: Controls> Competition<X> {
     fn lend(&mut self, heap: Global, sizes: Sizes) -> Result<Answer, AllocError>
         ensures does { IfOk result (λ a. Does (process_of self.old) (world_of X.Host.view self.old) (lend (zeros sizes)) a
             (world_of X.Host.view self.new)) }
@@ -27,29 +26,32 @@ where
         Ok(Answer::Done)
     }
 
-    fn control(&mut self, command: X::Command) -> Answer
+    // Gives the host a command: the fault with which it declines, if it does.
+    fn control(&mut self, command: &X::Command) -> Option<Fault>
         ensures does { Does (process_of self.old) (world_of X.Host.view self.old) (control (X.Host.view self.new.host).shut)
-            result (world_of X.Host.view self.new) }
-        ensures left { X.Controls.leaves self.old.host command self.new.host }
+            Done (world_of X.Host.view self.new) }
+        ensures left { Left (X.Controls.declines self.old.host command.now) X.Controls.leaves self.old.host command.now self.new.host }
+        ensures refused { result ≡ X.Controls.declines self.old.host command.now }
         ensures process { process_of self.new ≡ process_of self.old }
     {
-        self.host.control(command);
-        Answer::Done
+        self.host.control(command).err()
     }
 
-    // Makes a call, lends other memory, or commands the host.
+    // Makes a call, lends other memory, or commands the host; and the fault of a declined command.
     pub(crate) fn answer(
         &mut self,
         heap: Global,
         event: &Event<X::Command>,
-    ) -> Result<Answer, AllocError>
+    ) -> Result<(Answer, Option<Fault>), AllocError>
         ensures does { IfOk result (λ a. Does (process_of self.old) (world_of X.Host.view self.old)
-            (happening (X.Host.view self.new.host).shut event.now) a (world_of X.Host.view self.new)) }
-        ensures steered { IfOk result (λ _. Steers X.Host.switches X.Controls.leaves event.now self.old.host self.new.host) }
+            (happening (X.Host.view self.new.host).shut event.now) a.0 (world_of X.Host.view self.new)) }
+        ensures steered { IfOk result (λ _. Steered X.Host.goes X.Controls.declines X.Controls.leaves
+            self.old.host (command_of event.now) self.new.host) }
+        ensures refused { IfOk result (λ a. a.1 ≡ refused X.Controls.declines self.old.host (command_of event.now)) }
         ensures same { OnErr result (self.new ≡ self.old) }
         ensures process { process_of self.new ≡ process_of self.old }
     {
-        Ok(match event {
+        let answer = match event {
             Event::Start {
                 step,
                 predecessors,
@@ -64,7 +66,8 @@ where
             Event::Listing => self.listing(),
             Event::Reply { place } => self.reply(*place),
             Event::Lend { sizes } => self.lend(heap, *sizes)?,
-            Event::Control { command } => self.control(*command),
-        })
+            Event::Control { command } => return Ok((Answer::Done, self.control(command))),
+        };
+        Ok((answer, None))
     }
 }

@@ -57,7 +57,7 @@ impl Sheet {
     fn drop_running<X: Host>(&self, host: &mut X)
         requires { Droppable (sheet_of self.now).rows (X.Host.view host.old) }
         ensures drops { X.Host.view host.new ≡ all_dropped (sheet_of self.now).rows (X.Host.view host.old) }
-        ensures switches { X.Host.switches host.new ≡ X.Host.switches host.old }
+        ensures goes { X.Host.goes host.old host.new }
     {
         let to_drop = self.table.rows_in(RowState::Running);
         let mut last = 0;
@@ -97,7 +97,7 @@ impl Sheet {
         requires room { enough (length (held scratch.old.marks.now)) (length scratch.old.line.now) ≡ true }
         ensures sheet { sheet_of self.new ≡ aborted (chart_of self.old) (sheet_of self.old) mode }
         ensures host { X.Host.view host.new ≡ all_dropped (sheet_of self.old).rows (X.Host.view host.old) }
-        ensures switches { X.Host.switches host.new ≡ X.Host.switches host.old }
+        ensures goes { X.Host.goes host.old host.new }
         ensures process { self.new.process ≡ self.old.process }
         ensures loans { SameLoans scratch.old scratch.new }
     {
@@ -125,7 +125,7 @@ impl Sheet {
     ) -> Result<Ticket, Fault>
         ensures comes { Aborts (chart_of self.old) (sheet_of self.old) (X.Host.view host.old) mode
             (length column.old) (length line.old) result (sheet_of self.new) (X.Host.view host.new) }
-        ensures switches { X.Host.switches host.new ≡ X.Host.switches host.old }
+        ensures goes { X.Host.goes host.old host.new }
         ensures process { self.new.process ≡ self.old.process }
         ensures column { column.new ≡ column_after column.old (length line.old) }
         ensures line { enough (length column.old) (length line.old) ≡ false → line.new ≡ line.old }

@@ -31,7 +31,7 @@ impl Sheet {
     pub fn end<X: Host>(&mut self, host: &mut X, row: u16) -> Result<(), Fault>
         ensures comes { Ends (sheet_of self.old) (X.Host.view host.old) row result
             (sheet_of self.new) (X.Host.view host.new) }
-        ensures switches { X.Host.switches host.new ≡ X.Host.switches host.old }
+        ensures goes { X.Host.goes host.old host.new }
         ensures process { self.new.process ≡ self.old.process }
     {
         self.may_end(row)?;

@@ -163,7 +163,7 @@ impl Sheet {
     ) -> Result<u16, Fault>
         ensures comes { Starts (chart_of self.old) (sheet_of self.old) (X.Host.view host.old)
             step predecessors.now entry result (sheet_of self.new) (X.Host.view host.new) }
-        ensures switches { X.Host.switches host.new ≡ X.Host.switches host.old }
+        ensures goes { X.Host.goes host.old host.new }
         ensures process { self.new.process ≡ self.old.process }
     {
         let candidate = Candidate {

@@ -42,7 +42,7 @@ impl Sheet {
     ) -> Result<(), Fault>
         ensures comes { Undoes (sheet_of self.old) (X.Host.view host.old) ticket.now.number row
             (length column.old) (length line.old) result (sheet_of self.new) (X.Host.view host.new) }
-        ensures switches { X.Host.switches host.new ≡ X.Host.switches host.old }
+        ensures goes { X.Host.goes host.old host.new }
         ensures process { self.new.process ≡ self.old.process }
         ensures column { column.new ≡ column_after column.old (length line.old) }
         ensures line { enough (length column.old) (length line.old) ≡ false → line.new ≡ line.old }

@@ -5,7 +5,7 @@ use Rattle.host.proofs.calls.make_all.Goals as goal
 use Rattle.host.proofs.calls.make_all.Goals.{then-is_ok, else-is_ok}
 
 pub loop-call-init : goal.loop-call-init
-loop-call-init g c = ((omega arith, omega arith, refl, later_same _), refl)
+loop-call-init g c = ((omega arith, omega arith, refl, later_same _), g.met.X.Host.stays c.args.host.now)
 
 pub loop-call-preserved : goal.loop-call-preserved
 loop-call-preserved g c =
@@ -20,7 +20,7 @@ loop-call-preserved g c =
         | then-is_ok x ↦ more true c.loop-call-test.true sound made.shows made.answers (was ∙ x.if-is_ok.true) x.count-is c.loop-call.invariant.0
         | else-is_ok x ↦ more false c.loop-call-test.true sound made.shows made.answers (was ∙ x.if-is_ok.false) x.count-is c.loop-call.invariant.0
       ],
-      c.make.ensures.switches ∙ c.loop-call.invariant.1,
+      g.met.X.Host.goes_on c.args.host.now c.loop-call.host c.make.new.host c.loop-call.invariant.1 c.make.ensures.goes,
     )
 
 pub returns : goal.returns
@@ -28,4 +28,4 @@ returns g c =
     let u = g.X.Host.view c.args.host.now in
     let v = g.X.Host.view c.loop-call.host in
     let all = come_all u v c.args.calls.now c.loop-call.call-index c.loop-call.count c.loop-call-test.false c.loop-call.invariant.0 in
-    record { answers = all.0; shows = all.1; later = c.loop-call.invariant.0.3; switches = c.loop-call.invariant.1 }
+    record { answers = all.0; shows = all.1; later = c.loop-call.invariant.0.3; goes = c.loop-call.invariant.1 }

@@ -1,10 +1,8 @@
--- The host has come here by the calls so far, and no switch was turned.
-use Rattle.std.proofs.Common.{◌≡◌}
+-- The host has come here by the calls so far.
 use Rattle.host.proofs.Along.{Come}
 use Rattle.host.proofs.calls.make_all.Given as goal
 
 abbrev pub invariant-loop-call : goal.invariant-loop-call
 invariant-loop-call g l =
     let view = g.X.Host.view in
-    Come (view l.initial.host) l.calls l.call-index (view l.host) l.count
-    × (g.X.Host.switches l.host ≡ g.X.Host.switches l.initial.host)
+    Come (view l.initial.host) l.calls l.call-index (view l.host) l.count × g.X.Host.goes l.initial.host l.host

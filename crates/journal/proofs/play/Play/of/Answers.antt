@@ -1,7 +1,7 @@
 -- A blank sheet, new hosts and memory that is zero.
-use Rattle.std.proofs.Common.{◌∙◌}
+use Rattle.std.proofs.Common.{◌∙◌, sym, subst}
 use Rattle.model.specs.Run.{world}
-use Rattle.journal.specs.Hosts.{switches_of}
+use Rattle.journal.specs.Hosts.{switches_of, InOrder}
 use Rattle.journal.proofs.play.Play.of.Goals as goal
 
 pub returns-clause-played : goal.returns-clause-played
@@ -16,3 +16,6 @@ returns-clause-played c =
       printed = c.in_ok-printed.ensures i;
       calls = record { all = none.0 i; accepted = none.1.0 i; declined = none.1.1 i };
     }
+
+pub invariant_of-result : goal.invariant_of-result
+invariant_of-result c = record { order = subst InOrder (sym c.new-3.ensures.host) c.in_ok-hosts.ensures.order }

@@ -5,18 +5,14 @@ use Rattle.model.specs.Summaries.{summary_of}
 use Rattle.sheet.specs.SheetOf.{sheet_of, chart_of}
 use Rattle.journal.specs.Names.{texts}
 use Rattle.journal.specs.Outcomes.{replayed}
+use Rattle.journal.specs.Playing.{process_of, played_of}
 use Rattle.journal.specs.Summaries.{joined}
 use Rattle.journal.proofs.play.Play.outcome.Goals as goal
 
 pub returns : goal.returns
 returns c =
-    let balance = c.balance-balance.result in
+    let p = c.args.self.now in
     let summary = c.in_ok-summary.ensures
-    ∙ (λ i. joined c.args.self.now.calls (summary_of (chart_of (c.sheet-sheet.ensures i)) (sheet_of (c.sheet-sheet.ensures i))) (texts c.args.names) balance) in
-    IfOk-weaker c.replayed.result _ _
-    (λ x h. record {
-      balance = balance;
-      balances = c.balance-balance.ensures;
-      tells = h ∙ (λ i. replayed (c.as_str.ensures.value i) (summary i));
-    })
-    c.replayed.ensures
+    ∙ (λ i. joined p.calls (summary_of (chart_of (c.sheet-sheet.ensures i)) (sheet_of (c.sheet-sheet.ensures i))) (texts c.args.names)
+    (c.balance-balance.ensures i)) in
+    IfOk-weaker c.replayed.result _ _ (λ x h. h ∙ (λ i. replayed (c.as_str.ensures.value i) (summary i))) c.replayed.ensures

@@ -1,31 +1,49 @@
 -- The event that was taken and told of is the call of the line.
-use Rattle.std.proofs.Common.{◌++◌, string_bytes, ap, ◌∙◌}
+use Rattle.std.proofs.Common.{◌≡◌, ◌++◌, string_bytes, ap, sym, subst, ◌∙◌}
 use Rattle.std.proofs.lemmas.Result.{on_ok_weaker}
-use Rattle.sheet.specs.Happenings.{happening}
+use Rattle.model.specs.Book.{accepted}
+use Rattle.model.specs.Run.{said}
+use Rattle.sheet.specs.Happenings.{happening, command_of}
 use Rattle.sheet.specs.Lent.{lent_of}
 use Rattle.sheet.specs.Runs.{world_of}
-use Rattle.sheet.specs.declared.memory.Memory.{Memory}
+use Rattle.sheet.specs.declared.replay.Competition.{Competition}
 use Rattle.sheet.proofs.Going.{gone_one}
 use Rattle.journal.specs.Calls.{call_of, call_text}
-use Rattle.journal.specs.Hosts.{hosts_view, switches_of}
-use Rattle.journal.specs.Played.{part_of, told_text, told_line}
+use Rattle.journal.specs.Hosts.{Hosts, hosts_view, switches_of, InOrder}
+use Rattle.journal.specs.Played.{part_of, counted, told_text, told_line}
 use Rattle.journal.specs.Playing.{played_of, process_of}
-use Rattle.journal.proofs.Playing.{shut_by, steers, plays_one}
+use Rattle.journal.proofs.Playing.{shut_by, steers, keeps_order, refuses_none, plays_one}
 use Rattle.journal.proofs.play.Play.take.Goals as goal
 
 pub returns-clause-played : goal.returns-clause-played
 returns-clause-played c =
     let x = c.args.self.now in
     let y = c.take.new.self in
-    let t = c.in_ok-answer.field-0 in
+    let t = c.in_ok-take.field-0 in
     let line = c.args.line.now in
-    let did = gone_one (process_of x) (world_of hosts_view x.competition) (happening t.shut line.event) t.answer (world_of hosts_view y)
-    c.in_ok-answer.ensures.goes in
     let call = call_of line.event in
-    let remembered = ap (λ (m : Memory). string_bytes x.printed
-    ++ told_line (part_of call) line.number (call_text call) (told_text call t.answer (lent_of m))) c.memory.ensures in
-    on_ok_weaker c.print.result (λ told.
+    let host = c.in_ok-take.ensures.host in
+    let did = gone_one (process_of x) (world_of hosts_view x.competition) (happening t.shut line.event) t.answer (world_of hosts_view y)
+    c.in_ok-take.ensures.goes in
+    let told : c.told-told.result ≡ t.answer =
+    c.told-told.ensures ∙ ap (λ f. said f t.answer) (host.refused ∙ refuses_none x.competition.host (command_of line.event)) in
+    let shown : string_bytes x.printed ++ told_line (part_of call) line.number (call_text call)
+        (told_text call c.told-told.result (lent_of c.memory.result.now))
+        ≡ string_bytes x.printed ++ told_line (part_of call) line.number (call_text call) (told_text call t.answer (lent_of y.memory)) =
+    (λ i. string_bytes x.printed ++ told_line (part_of call) line.number (call_text call)
+    (told_text call (told i) (lent_of (c.memory.ensures i)))) in
+    on_ok_weaker c.print.result (λ printed.
     plays_one (process_of x) (played_of x) line.number line.event t.shut t.answer (world_of hosts_view y) (switches_of y.host) _ _ did
-    (c.in_ok-answer.ensures.shut ∙ shut_by y.host) (steers line.event x.competition.host y.host c.in_ok-answer.ensures.steered)
-    (told ∙ remembered) c.add.ensures)
+    (host.shut ∙ shut_by y.host) (steers line.event x.competition.host y.host host.steered)
+    (printed ∙ shown) (c.add.ensures ∙ ap (λ a. counted (part_of call) (accepted a) x.calls) told))
     c.print.ensures
+
+pub invariant_of-self : goal.invariant_of-self
+invariant_of-self c =
+    record { order = subst (λ (k : Competition Hosts). InOrder k.host) (sym c.in_err-take.ensures.same) c.args.self.now.order }
+
+pub invariant_of-self-2 : goal.invariant_of-self-2
+invariant_of-self-2 c =
+    let x = c.args.self.now in record {
+      order = keeps_order (command_of c.args.line.now.event) x.competition.host c.take.new.self.host c.in_ok-take.ensures.host.steered x.order;
+    }

@@ -1,13 +1,15 @@
 -- One line more: there is room for it, and all that the ledger keeps true stays so.
-use Rattle.std.proofs.Common.{◌≡◌, ◌+◌, ◌*◌, ◌/◌, ◌<◌, ◌≤◌, min, false, cond, [], ◌∷◌, ◌++◌, length, rules, pos, ◌+ℤ◌, ◌≤ℤ◌, is_some, sym, refl, ap, ◌∙◌, subst, arith, length-append}
+use Rattle.std.proofs.Common.{◌≡◌, ◌+◌, ◌*◌, ◌/◌, ◌<◌, ◌≤◌, min, true, false, cond, [], ◌∷◌, ◌++◌, length, rules, pos, ◌+ℤ◌, ◌≤ℤ◌, is_some, sym, refl, ap, ◌∙◌, subst, arith, length-append}
+use Rattle.host.specs.Known.{known_by}
 use Rattle.host.specs.Keys.{RowKey, is_row}
 use Rattle.host.specs.Places.{places_most}
 use Rattle.host.specs.Table.{capacity_of}
 use Rattle.host.proofs.Tables.{has_room, all_pushed}
 use Rattle.ledger.specs.Book.{lines_of}
-use Rattle.ledger.specs.Fees.{posted, standing_fees, reserved}
-use Rattle.ledger.specs.Lines.{last_of, last_place, begun_in, kept_by, is_hold, lines_most}
+use Rattle.ledger.specs.Fees.{posted, standing_sum, reserved}
+use Rattle.ledger.specs.Lines.{last_of, last_place, begun_in, kept_by, is_hold, lines_most, fees}
 use Rattle.ledger.proofs.Added.{begun_push, rows_push, balanced_push, reserve_push, added_fits}
+use Rattle.ledger.proofs.Fees.{fees_push}
 use Rattle.ledger.proofs.Last.{placed_push}
 use Rattle.ledger.proofs.book.Ledger.add.Goals as goal
 
@@ -47,9 +49,10 @@ invariant_of-self c =
           placed_push (lines_of b) new n _ _ _ c.requires.row last short (b.placed n) (c.set.ensures n)
           ∙ ap (λ xs. last_place xs n) (sym more);
       few = subst (λ n. begun ≤ min lines_most n / 3) (sym c.push.ensures.capacity) few;
+      fees = subst (λ xs. fees xs ≡ true) (sym more) (fees_push (lines_of b) new b.fees c.requires.fee);
       rows = subst (λ xs. (n : RowKey) → is_row n ≡ false → is_some (last_of xs n) ≡ false) (sym more) rows;
       reserve =
           subst (λ n. (pos n +ℤ reserved c.push.new.self.used) ≤ℤ pos (3 * begun)) (sym one)
           (subst (λ xs. (pos (used + 1) +ℤ reserved xs) ≤ℤ pos (3 * begun)) (sym more) reserve);
-      balanced = subst (λ xs. posted xs ≡ standing_fees (kept_by 0 xs)) (sym more) balanced;
+      balanced = subst (λ xs. posted xs ≡ standing_sum (known_by (kept_by 0 xs))) (sym more) balanced;
     }

@@ -2,9 +2,9 @@
 use Rattle.std.proofs.Common.{◌≡◌, ◌<◌, true, ◌++◌, ◌∷◌, [], length, length-append, sym, ap, ◌∙◌, subst, arith}
 use Rattle.host.proofs.Tables.{has_room, all_pushed}
 use Rattle.host.specs.Places.{places_most}
-use Rattle.scorebook.specs.Records.{well, place_in}
+use Rattle.scorebook.specs.Records.{well, scores, place_in}
 use Rattle.scorebook.proofs.Placed.{placed_push}
-use Rattle.scorebook.proofs.Turned.{well_push}
+use Rattle.scorebook.proofs.Turned.{well_push, scores_push}
 use Rattle.scorebook.proofs.book.ScoreBook.add.Goals as goal
 
 pub invariant_of-self : goal.invariant_of-self
@@ -22,6 +22,7 @@ invariant_of-self c =
       sound =
           subst (λ ys. well ys ≡ true) (sym more)
           (well_push xs new b.sound c.requires.row c.requires.known c.requires.unused);
+      scores = subst (λ ys. scores ys ≡ true) (sym more) (scores_push xs new b.scores c.requires.score);
       placed = λ n.
           placed_push xs new n _ _ _ c.requires.row last few c.requires.unused (b.placed n) (c.set.ensures n)
           ∙ ap (λ ys. place_in ys n) (sym more);

@@ -1,9 +1,9 @@
 -- The record at the row's place is set, or there is none.
 use Rattle.std.proofs.Common.{◌≡◌, true, length, sym, ap, ◌∙◌, subst, arith}
 use Rattle.std.proofs.lemmas.List.{length-set}
-use Rattle.scorebook.specs.Records.{well, place_in}
+use Rattle.scorebook.specs.Records.{well, scores, place_in}
 use Rattle.scorebook.proofs.Placed.{place_turned}
-use Rattle.scorebook.proofs.Turned.{turned_at, turned_absent, well_turned}
+use Rattle.scorebook.proofs.Turned.{turned_at, turned_absent, well_turned, scores_turned}
 use Rattle.scorebook.proofs.book.ScoreBook.restate.Goals as goal
 
 pub invariant_of-self : goal.invariant_of-self
@@ -15,6 +15,7 @@ invariant_of-self c =
     record {
       within = omega (arith, ap length c.set.ensures.used, length-set xs c.in-Some.i, b.within);
       sound = subst (λ ys. well ys ≡ true) (sym turns) (well_turned xs c.args.row c.args.to b.sound c.requires);
+      scores = subst (λ ys. scores ys ≡ true) (sym turns) (scores_turned xs c.args.row c.args.to b.scores);
       placed = λ n. b.placed n ∙ sym (ap (λ ys. place_in ys n) turns ∙ place_turned xs c.args.row c.args.to n);
     }
 

@@ -1,6 +1,7 @@
 -- One event more leads on.
 use Rattle.std.proofs.Common.{refl, ◌∙◌, arith}
 use Rattle.sheet.specs.Runs.{world_of, process_of}
+use Rattle.sheet.proofs.Belonging.{still_belong, along_sorts}
 use Rattle.sheet.proofs.Going.{goes_on, gone_first, gone_more, along_first, along_more}
 use Rattle.sheet.proofs.replay.Competition.replay.Goals as goal
 
@@ -8,21 +9,21 @@ pub loop-event-init : goal.loop-event-init
 loop-event-init g c = (
   gone_first _ _ c.args.events.now c.reserve.new.self.items (c.reserve.ensures.items ∙ c.new-taken.ensures.items),
   refl,
-  along_first g.X.Host.view g.X.Host.switches g.X.Controls.leaves c.args.self.now.host c.args.events.now c.reserve.new.self.items (c.reserve.ensures.items ∙ c.new-taken.ensures.items),
+  along_first g.X.Host.view g.X.Host.goes g.X.Controls.declines g.X.Controls.leaves c.args.self.now.host c.args.events.now c.reserve.new.self.items (c.reserve.ensures.items ∙ c.new-taken.ensures.items),
 )
 
 pub loop-event-preserved : goal.loop-event-preserved
 loop-event-preserved g c =
     let view = g.X.Host.view in
     let x = c.args.self.now in
-    let (t, more, shut, steers, one) = c.in_default.ensures.goes in (
+    let (t, more, host, one) = c.in_default.ensures.goes in (
       gone_more (process_of x) (world_of view x) c.args.events.now c.loop-event.event-index c.loop-event.taken.items (world_of view c.loop-event.self)
           c.event-item.result c.take_into.new.taken.items t (world_of view c.take_into.new.self)
           c.loop-event-test.true c.event-item.is c.loop-event.invariant.0 more c.loop-event.invariant.1 one,
       c.in_default.ensures.process ∙ c.loop-event.invariant.1,
-      along_more view g.X.Host.switches g.X.Controls.leaves x.host c.loop-event.self.host c.take_into.new.self.host c.args.events.now
+      along_more view g.X.Host.goes g.X.Controls.declines g.X.Controls.leaves x.host c.loop-event.self.host c.take_into.new.self.host c.args.events.now
           c.loop-event.event-index c.loop-event.taken.items c.event-item.result c.take_into.new.taken.items t
-          c.loop-event-test.true c.event-item.is c.loop-event.invariant.0.told more steers shut c.loop-event.invariant.2,
+          c.loop-event-test.true c.event-item.is c.loop-event.invariant.0.told more host c.loop-event.invariant.2,
     )
 
 pub returns-in-Err-clause-goes : goal.returns-in-Err-clause-goes
@@ -54,8 +55,23 @@ returns-clause-some g c = let so_far = c.loop-event.invariant.0 in omega (arith,
 pub returns-clause-left : goal.returns-clause-left
 returns-clause-left g c stopped = absurd (stopped refl)
 
-pub returns-clause-steered : goal.returns-clause-steered
-returns-clause-steered g c = c.loop-event.invariant.2
+pub returns-clause-host : goal.returns-clause-host
+returns-clause-host g c = c.loop-event.invariant.2
 
-pub returns-in-Err-clause-steered : goal.returns-in-Err-clause-steered
-returns-in-Err-clause-steered g c = rw (c.in-Err.ensures.same, c.in-Err.ensures.kept) c.loop-event.invariant.2
+pub returns-in-Err-clause-host : goal.returns-in-Err-clause-host
+returns-in-Err-clause-host g c = rw (c.in-Err.ensures.same, c.in-Err.ensures.kept) c.loop-event.invariant.2
+
+pub returns-clause-belong : goal.returns-clause-belong
+returns-clause-belong g c =
+    still_belong g.X.Host.view g.X.Host.holds g.met.X.Host.sound g.met.X.Host.whole (process_of c.args.self.now) c.args.self.now c.loop-event.self
+    (goes_on (process_of c.args.self.now) (world_of g.X.Host.view c.args.self.now) c.loop-event.invariant.0.leads)
+    (along_sorts g.X.Host.view g.X.Host.holds g.met.X.Host.sound g.met.X.Host.whole g.X.Host.goes g.X.Controls.declines g.X.Controls.leaves
+    g.met.X.Host.stays_sorted g.met.X.Controls.moves_no_row c.loop-event.invariant.2)
+
+pub returns-in-Err-clause-belong : goal.returns-in-Err-clause-belong
+returns-in-Err-clause-belong g c =
+    rw c.in-Err.ensures.same
+    (still_belong g.X.Host.view g.X.Host.holds g.met.X.Host.sound g.met.X.Host.whole (process_of c.args.self.now) c.args.self.now c.loop-event.self
+    (goes_on (process_of c.args.self.now) (world_of g.X.Host.view c.args.self.now) c.loop-event.invariant.0.leads)
+    (along_sorts g.X.Host.view g.X.Host.holds g.met.X.Host.sound g.met.X.Host.whole g.X.Host.goes g.X.Controls.declines g.X.Controls.leaves
+    g.met.X.Host.stays_sorted g.met.X.Controls.moves_no_row c.loop-event.invariant.2))

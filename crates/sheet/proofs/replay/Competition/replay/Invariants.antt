@@ -11,4 +11,4 @@ invariant-loop-event g l =
     let view = g.X.Host.view in
     Gone (process_of l.fn.self) (world_of view l.fn.self) l.events l.event-index l.taken.items (world_of view l.self)
     × (process_of l.self ≡ process_of l.fn.self)
-    × Along view g.X.Host.switches g.X.Controls.leaves l.fn.self.host (zip l.events l.taken.items) l.self.host
+    × Along view g.X.Host.goes g.X.Controls.declines g.X.Controls.leaves l.fn.self.host (zip l.events l.taken.items) l.self.host

@@ -31,7 +31,7 @@ loop-row-preserved g c =
     record {
       dropped = dropped_one runs n v _ _ (c.requires n running) (sym running) here
           (simp c.row_key.ensures at c.drop_row.ensures.does.shows);
-      switches = c.drop_row.ensures.switches ∙ c.loop-row.invariant.switches;
+      goes = g.met.X.Host.goes_on c.args.host.now c.loop-row.host c.drop_row.new.self c.loop-row.invariant.goes c.drop_row.ensures.goes;
       within = runs_within c.args.self.now.table n running;
     }
 

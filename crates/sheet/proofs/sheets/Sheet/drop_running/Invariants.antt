@@ -10,7 +10,7 @@ invariant-loop-row g l =
     record {
       dropped : g.X.Host.view l.host
           ≡ dropped_below (in_state (sheet_of l.self).rows Running) (l.last + 1) (g.X.Host.view l.initial.host);
-      switches : g.X.Host.switches l.host ≡ g.X.Host.switches l.initial.host;
+      goes : g.X.Host.goes l.initial.host l.host;
       within : l.last ≤ (sheet_of l.self).rows.count;
     }
 
