@@ -1,8 +1,8 @@
 -- What a call makes of a pair, where one of its hosts is called. Assumes nothing.
-use Rattle.std.proofs.Common.{◌≡◌, Bool, true, false, not, ◌&&◌, Result, refl, sym, ◌∙◌, ap, ap₂, subst, arith}
+use Rattle.std.proofs.Common.{◌≡◌, Bool, true, false, not, ◌&&◌, Result, refl, sym, ◌∙◌, ap, ap₂, subst}
 use Rattle.values.specs.declared.Fault.{Fault}
 use Rattle.host.specs.Calls.{Makes}
-use Rattle.host.specs.Known.{Known, known_by, only, is_kind, is_other, Sorted}
+use Rattle.host.specs.Known.{Known, known_by, Sorted}
 use Rattle.host.specs.Laws.{Whole, StaysSorted}
 use Rattle.host.specs.View.{View, Sound}
 use Rattle.host.specs.Views.{for_first, pair_view, Called, CalledIf, PairHolds, PairMakes, PairGoes}

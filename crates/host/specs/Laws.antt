@@ -1,9 +1,8 @@
 -- The lemmas that the laws of switch and pair as hosts cite. Assumes nothing.
-use Rattle.std.specs.Prelude.{◌≡◌, Bool, true, false, cond, not, is_some, Some, None, Option, refl}
-use Rattle.std.proofs.Common.{◌∙◌, sym, ap, subst, arith}
+use Rattle.std.specs.Prelude.{◌≡◌, cond, not, is_some, None, Option, refl}
+use Rattle.std.proofs.Common.{◌∙◌, sym, subst, arith}
 use Rattle.std.proofs.lemmas.Bool.Decides.{nat_tests}
 use mathlib.Core.Path.{fun_ext}
-use Rattle.values.specs.Numbers.{same_kind}
 use Rattle.values.specs.declared.Entry.{Entry}
 use Rattle.values.specs.declared.HostState.{HostState}
 use Rattle.values.specs.declared.Kind.{Kind}
@@ -13,10 +12,8 @@ use Rattle.host.specs.Known.{Known, KnownRow, known_by, known_row, if_wanted, on
 use Rattle.host.specs.Views.{joined, switch_view, pair_view, SwitchHolds, PairHolds, SwitchGoes, PairGoes}
 use Rattle.host.specs.Commands.{LeavesAll, SwitchLeaves, PairLeaves}
 use Rattle.host.specs.declared.switch.Switch.{Switch}
-use Rattle.host.specs.declared.switch.SwitchCommand.{SwitchCommand}
 use Rattle.host.specs.declared.switch.SwitchCommand.TheVariants.{On, Off, Below}
 use Rattle.host.specs.declared.pair.Pair.{Pair}
-use Rattle.host.specs.declared.pair.PairCommand.{PairCommand}
 use Rattle.host.specs.declared.pair.PairCommand.TheVariants.{First, Second}
 
 -- ── what a host holds ──

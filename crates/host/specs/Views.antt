@@ -4,7 +4,7 @@ use Rattle.values.specs.Numbers.{same_kind}
 use Rattle.values.specs.declared.Fault.{Fault}
 use Rattle.values.specs.declared.Kind.{Kind}
 use Rattle.host.specs.Calls.{Makes}
-use Rattle.host.specs.Known.{Known, known_by, only, is_kind, is_other, Sorted}
+use Rattle.host.specs.Known.{Known, only, is_kind, is_other, Sorted}
 use Rattle.host.specs.View.{View, is_unknown, shut_as}
 use Rattle.host.specs.declared.calls.Call.{Call}
 use Rattle.host.specs.declared.calls.Call.TheVariants.{Begin, Commit, Drop, Undo}

@@ -103,10 +103,7 @@ impl<X: Controls, Y: Controls> Controls for Pair<X, Y> {
 
     ghost moves_no_row = { pair_moves_no_row X.Host.holds X.Controls.leaves Y.Host.holds Y.Controls.leaves X.Controls.moves_no_row Y.Controls.moves_no_row };
 
-    fn control(
-        &mut self,
-        command: &PairCommand<X::Command, Y::Command>,
-    ) -> Result<bool, Fault> {
+    fn control(&mut self, command: &PairCommand<X::Command, Y::Command>) -> Result<bool, Fault> {
         match command {
             PairCommand::First(c) => self.first.control(c)?,
             PairCommand::Second(c) => self.second.control(c)?,

@@ -1,5 +1,9 @@
-// Tests of the hosts together: a pair of a switched ledger and a switched score book, and a deeper stack.
+// Tests of the hosts together: pairs, switches, a deeper stack, and a host that keeps more than it shows.
 #![tactic(auto)]
+
+mod counting;
+
+pub use counting::Counting;
 
 #[cfg(test)]
 mod tests;

@@ -1,4 +1,5 @@
 // Calls on stacks of hosts, accepted and declined.
+use crate::Counting;
 use host::{
     Call, Controls, Host, NoCommand, Pair, PairCommand, Switch, SwitchCommand, make_all, row_key,
 };
@@ -42,6 +43,11 @@ fn hosts(heap: Global, lines: usize, records: usize) -> Result<Hosts, AllocError
 // The cause with which a call is declined.
 fn cause_of<X: Host>(host: &mut X, call: Call) -> Option<Cause> {
     call.make(host).err().map(|fault| fault.cause)
+}
+
+// Gives a command: whether the host is shut then, if it did not decline.
+fn shut_after<X: Controls>(host: &mut X, command: &X::Command) -> Option<bool> {
+    host.control(command).ok()
 }
 
 // Makes each call and compares the number of its cause, which is 0 if the call is accepted: faults are printed by number.
@@ -100,7 +106,7 @@ fn rows_go_only_by_lawful_turns(rt: HostRuntime) -> Result<(), Fail> {
 fn a_shut_side_shuts_the_pair(rt: HostRuntime) -> Result<(), Fail> {
     let mut pair = hosts(rt.alloc(), 6, 1)?;
     expect(&rt, &mut pair, &[(Call::Begin(1, FEE), 0)]);
-    assert!(rt; pair.control(PairCommand::First(SwitchCommand::Off)));
+    assert!(rt; shut_after(&mut pair, &PairCommand::First(SwitchCommand::Off)) == Some(true));
     let declined = [
         (Call::Begin(2, SCORE), 13),
         (Call::Begin(0, SCORE), 13),
@@ -111,9 +117,9 @@ fn a_shut_side_shuts_the_pair(rt: HostRuntime) -> Result<(), Fail> {
     expect(&rt, &mut pair, &declined);
     assert_eq!(rt; pair.state(1), HostState::Open);
     assert_eq!(rt; pair.room(Kind::Fee), 1);
-    assert!(rt; pair.control(PairCommand::Second(SwitchCommand::Off)));
-    assert!(rt; pair.control(PairCommand::First(SwitchCommand::On)));
-    assert!(rt; !pair.control(PairCommand::Second(SwitchCommand::On)));
+    assert!(rt; shut_after(&mut pair, &PairCommand::Second(SwitchCommand::Off)) == Some(true));
+    assert!(rt; shut_after(&mut pair, &PairCommand::First(SwitchCommand::On)) == Some(true));
+    assert!(rt; shut_after(&mut pair, &PairCommand::Second(SwitchCommand::On)) == Some(false));
     expect(
         &rt,
         &mut pair,
@@ -201,7 +207,7 @@ fn hosts_stand_on_hosts(rt: HostRuntime) -> Result<(), Fail> {
     let off = SwitchCommand::Below(PairCommand::Second(SwitchCommand::Below(PairCommand::First(
         SwitchCommand::Off,
     ))));
-    assert!(rt; stack.control(off));
+    assert!(rt; shut_after(&mut stack, &off) == Some(true));
     expect(&rt, &mut stack, &[(Call::Undo(8), 13)]);
     assert_eq!(rt; stack.state(8), HostState::Standing);
     assert_eq!(rt; stack.room(Kind::Score), 1);
@@ -212,10 +218,91 @@ fn hosts_stand_on_hosts(rt: HostRuntime) -> Result<(), Fail> {
 fn a_command_to_a_book_changes_nothing(rt: HostRuntime) -> Result<(), Fail> {
     let mut pair = hosts(rt.alloc(), 6, 1)?;
     expect(&rt, &mut pair, &[(Call::Begin(1, FEE), 0)]);
-    assert!(rt; !pair.control(PairCommand::First(SwitchCommand::Below(NoCommand))));
-    assert!(rt; pair.control(PairCommand::Second(SwitchCommand::Off)));
-    assert!(rt; pair.control(PairCommand::First(SwitchCommand::Below(NoCommand))));
+    assert!(rt;
+        shut_after(
+            &mut pair,
+            &PairCommand::First(SwitchCommand::Below(NoCommand))
+        ) == Some(false)
+    );
+    assert!(rt; shut_after(&mut pair, &PairCommand::Second(SwitchCommand::Off)) == Some(true));
+    assert!(rt;
+        shut_after(
+            &mut pair,
+            &PairCommand::First(SwitchCommand::Below(NoCommand))
+        ) == Some(true)
+    );
     assert_eq!(rt; pair.state(1), HostState::Open);
     assert_eq!(rt; pair.room(Kind::Fee), 1);
+    Ok(())
+}
+
+// The marks of a ledger's lines, as letters, and the states of a score book's records.
+fn marks(heap: Global, book: &Ledger) -> Result<String, AllocError> {
+    book.lines()
+        .iter()
+        .map(|line| match line.mark {
+            Mark::Hold => 'h',
+            Mark::Post => 'p',
+            Mark::Contra => 'c',
+            Mark::Release => 'r',
+        })
+        .collect(heap)
+}
+
+// A call, and the marks of both ledgers after it: the second has room for fees, too, and knows rows 4 and 5 from before.
+const SIDES: [(Call, &str, &str); 10] = [
+    (Call::Begin(1, FEE), "h", "hh"),
+    (Call::Begin(1, FEE), "h", "hh"),
+    (Call::Commit(1), "hp", "hh"),
+    (Call::Begin(2, SCORE), "hp", "hh"),
+    (Call::Commit(4), "hp", "hhp"),
+    (Call::Begin(4, FEE), "hp", "hhp"),
+    (Call::Drop(5), "hp", "hhpr"),
+    (Call::Undo(1), "hpc", "hhpr"),
+    (Call::Undo(4), "hpc", "hhprc"),
+    (Call::Begin(3, FEE), "hpch", "hhprc"),
+];
+
+#[test]
+fn only_one_side_is_written(rt: HostRuntime) -> Result<(), Fail> {
+    let mut other = ledger(rt.alloc(), 9)?;
+    make_all(&mut other, &[Call::Begin(4, FEE), Call::Begin(5, FEE)]);
+    let mut pair = Pair::new(Kind::Fee, ledger(rt.alloc(), 9)?, other);
+    for (call, first, second) in SIDES {
+        let _ = call.make(&mut pair);
+        let written = marks(rt.alloc(), pair.first())?;
+        assert_eq!(rt; written.as_str(), first);
+        let written = marks(rt.alloc(), pair.second())?;
+        assert_eq!(rt; written.as_str(), second);
+    }
+    Ok(())
+}
+
+#[test]
+fn a_switch_is_turned_over_any_host(rt: HostRuntime) -> Result<(), Fail> {
+    let mut stack = Switch::new(Switch::new(score_book(rt.alloc(), 2)?));
+    expect(&rt, &mut stack, &[(Call::Begin(1, SCORE), 0)]);
+    stack.turn(false);
+    assert!(rt; !stack.is_on());
+    assert!(rt; stack.inner().is_on());
+    expect(&rt, &mut stack, &[(Call::Commit(1), 13)]);
+    stack.turn(true);
+    expect(&rt, &mut stack, &[(Call::Commit(1), 0)]);
+    Ok(())
+}
+
+#[test]
+fn a_host_may_keep_more_than_it_shows(rt: HostRuntime) -> Result<(), Fail> {
+    let fees = Counting::new(ledger(rt.alloc(), 6)?);
+    let mut pair = Pair::new(Kind::Fee, fees, score_book(rt.alloc(), 1)?);
+    let calls = [
+        (Call::Begin(1, FEE), 0),
+        (Call::Begin(1, FEE), 15),
+        (Call::Undo(1), 15),
+        (Call::Commit(2), 15),
+        (Call::Commit(1), 0),
+    ];
+    expect(&rt, &mut pair, &calls);
+    assert_eq!(rt; pair.first().declined(), 2);
     Ok(())
 }

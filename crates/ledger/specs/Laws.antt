@@ -1,6 +1,6 @@
 -- The lemmas that the laws of the ledger as a host cite: what it shows is sound, and its lines after none or some calls.
 -- Assumes nothing.
-use Rattle.std.specs.Prelude.{◌≡◌, false, List, [], ◌∷◌, not, is_some, Some, None, Option, length, take, refl}
+use Rattle.std.specs.Prelude.{◌≡◌, false, List, [], ◌∷◌, not, is_some, Option, length, take}
 use Rattle.std.proofs.Common.{arith}
 use Rattle.values.specs.declared.HostState.TheVariants.{Unknown}
 use Rattle.host.specs.View.{Sound, is_unknown}
