@@ -101,6 +101,16 @@ ring_next {X = X} xs h c r d s pos t =
           ring_round xs (h + 1) (c - 1) (omega (arith, s.fits)) end ∙ ap (λ (k : ℕ). ring xs k (c - 1)) (sym e.0)
     ])
 
+pub ring_rest : {X : Type 0} (xs : List X) (h c r : ℕ) → Sound (length xs) h c → 0 < c → Next (length xs) h r →
+    ring xs r (c - 1) ≡ drop 1 (ring xs h c)
+ring_rest [] h c r s pos t = absurd (omega (arith, s.fits, pos))
+ring_rest (x ∷ xs) h c r s pos t = sym (ap (drop 1) (ring_next (x ∷ xs) h c r x s pos t))
+
+-- none waits, or the one at the head does before the others
+pub ring_first : {X : Type 0} (xs : List X) (h c : ℕ) (d : X) → Sound (length xs) h c → 0 < c →
+    ring xs h c ≡ get_or xs h d ∷ drop 1 (ring xs h c)
+ring_first xs h c d s pos = ring_pop xs h c d s pos ∙ ap (λ zs. get_or xs h d ∷ drop 1 zs) (sym (ring_pop xs h c d s pos))
+
 -- a queue stands within its places
 pub sound : {X : Type 0} (q : Queue X) → Sound (places q) q.head q.count
 sound q = record { fits = q.fits; within = q.within }

@@ -162,3 +162,30 @@ fn the_queue_goes_round(rt: HostRuntime) {
     assert!(rt; are_answered(&mut [0u16; 3], &ROUND));
     assert!(rt; are_answered(&mut [], &[Step::Refuse(1), Step::Empty]));
 }
+
+/// A point and how far it is: an element that cannot be copied.
+#[derive(Drop, PartialEq)]
+struct Reached {
+    point: u16,
+    distance: u16,
+}
+
+#[test]
+fn elements_need_not_be_copied(rt: HostRuntime) {
+    let near = |point| Reached { point, distance: 1 };
+    let mut slots = [near(0), near(0)];
+    let mut queue = Queue::new(&mut slots);
+    assert!(rt; queue.first().is_none());
+    assert!(rt; queue.push(near(3)) == Ok(()));
+    assert!(rt; queue.push(near(4)) == Ok(()));
+    assert!(rt; queue.push(near(5)) == Err(near(5)));
+    assert!(rt; queue.first() == Some(&near(3)));
+    queue.drop_first();
+    assert!(rt; queue.push(near(6)) == Ok(()));
+    assert!(rt; queue.first() == Some(&near(4)));
+    queue.drop_first();
+    assert!(rt; queue.first() == Some(&near(6)));
+    queue.drop_first();
+    queue.drop_first();
+    assert!(rt; queue.is_empty());
+}

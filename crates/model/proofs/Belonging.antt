@@ -2,9 +2,9 @@
 use Rattle.std.proofs.Common.{◌≡◌, ℕ, Bool, true, false, cond, None, refl, sym, ◌∙◌, ap₂, arith}
 use mathlib.Core.Path.{fun_ext}
 use Rattle.std.proofs.lemmas.Bool.Decides.{nat_tests}
-use Rattle.host.specs.Keys.{RowKey, is_row, is_of_sheet}
+use Rattle.host.specs.Keys.{RowKey, is_of_sheet}
 use Rattle.host.specs.View.{View, Fresh, Sound}
-use Rattle.host.specs.Known.{Known, known_row, known_by, nothing_known}
+use Rattle.host.specs.Known.{known_row, known_by, nothing_known}
 use Rattle.model.specs.Sheet.{Sheet, blank}
 use Rattle.model.specs.Sheets.{HostFollows, row_known, with_rows_known}
 use Rattle.model.specs.Histories.{LawfulHistory, nothing, one_more}

@@ -9,7 +9,7 @@ use Rattle.values.specs.Numbers.{phase_number, row_state_number, same_state}
 use Rattle.values.specs.declared.Phase.{Phase}
 use Rattle.values.specs.declared.RowState.{RowState}
 use Rattle.values.specs.declared.RowState.TheVariants.{Absent}
-use Rattle.process.specs.Bits.{pack, unpack, Fit}
+use Rattle.process.specs.Bits.{pack, Fit}
 use Rattle.process.proofs.Packing.{length_unpack, unpack_fit, repacked}
 use Rattle.model.specs.Search.{each_below}
 use Rattle.model.specs.Chart.{Chart, step_at}

@@ -1,11 +1,11 @@
 -- Rows stay where they belong, along whatever events. Assumes nothing.
-use Rattle.std.proofs.Common.{◌≡◌, ℕ, List, ◌++◌, sym, ◌∙◌, ap, subst, Option}
+use Rattle.std.proofs.Common.{◌≡◌, ℕ, List, sym, ◌∙◌, ap, subst, Option}
 use Rattle.values.specs.declared.Fault.{Fault}
 use Rattle.host.specs.View.{View, Fresh, Sound}
-use Rattle.host.specs.Known.{Known, known_by, nothing_known, Sorted}
+use Rattle.host.specs.Known.{Known, known_by, Sorted}
 use Rattle.host.specs.Laws.{Whole, Empty, StaysSorted, MovesNoRow}
 use Rattle.model.specs.Chart.{Chart}
-use Rattle.model.specs.Run.{History, Leads, Lent, opening}
+use Rattle.model.specs.Run.{History, opening}
 use Rattle.model.specs.Sheet.{Sheet, blank}
 use Rattle.model.specs.Sheets.{with_rows_known}
 use Rattle.model.proofs.Belonging.{follows_knows, fresh_knows, lawful_follows}

@@ -1,5 +1,5 @@
 //! What a queue does.
-ghost use Rattle.std.specs.Prelude.{◌≡◌, ◌+◌, ◌<◌, [], ◌∷◌, ◌++◌, length, is_ok, IfErr, if◌then◌else◌, MatchOption, ◌==◌, nat_lt};
+ghost use Rattle.std.specs.Prelude.{◌≡◌, ◌+◌, ◌<◌, [], ◌∷◌, ◌++◌, drop, length, is_ok, IfErr, if◌then◌else◌, MatchOption, ◌==◌, nat_lt};
 ghost use Rattle.graph.specs.Ring.{Spot};
 ghost use Rattle.graph.specs.Waiting.{waiting, places};
 
@@ -19,7 +19,7 @@ fn spot(n: usize, head: usize, count: usize) -> usize
     }
 }
 
-impl<'a, T: Copy> Queue<'a, T> {
+impl<'a, T: Drop> Queue<'a, T> {
     /// An empty queue over `slots`, with a place for each of them.
     pub fn new(slots: &'a mut [T]) -> Queue<'a, T>
         ensures waiting { waiting result ≡ [] }
@@ -66,6 +66,34 @@ impl<'a, T: Copy> Queue<'a, T> {
         Ok(())
     }
 
+    /// The first, if one waits.
+    pub fn first(&self) -> Option<&T>
+        ensures { MatchOption result
+            (waiting self.now ≡ [])
+            (λ x. waiting self.now ≡ x.now ∷ drop 1 (waiting self.now)) }
+    {
+        if self.count == 0 {
+            return None;
+        }
+        let slots = &*self.slots;
+        Some(&slots[self.head])
+    }
+
+    /// Lets the first go, if one waits. Its place keeps it until the place is wanted again.
+    pub fn drop_first(&mut self)
+        ensures waiting { waiting self.new ≡ drop 1 (waiting self.old) }
+        ensures places { places self.new ≡ places self.old }
+    {
+        if self.count == 0 {
+            return;
+        }
+        let n = self.slots.len();
+        self.head = if self.head + 1 < n { self.head + 1 } else { 0 };
+        self.count -= 1;
+    }
+}
+
+impl<T: Copy + Drop> Queue<'_, T> {
     /// Takes the first.
     pub fn pop(&mut self) -> Option<T>
         ensures waiting { MatchOption result
@@ -73,13 +101,8 @@ impl<'a, T: Copy> Queue<'a, T> {
             (λ x. waiting self.old ≡ x ∷ waiting self.new) }
         ensures places { places self.new ≡ places self.old }
     {
-        if self.count == 0 {
-            return None;
-        }
-        let n = self.slots.len();
-        let x = self.slots[self.head];
-        self.head = if self.head + 1 < n { self.head + 1 } else { 0 };
-        self.count -= 1;
-        Some(x)
+        let first = *self.first()?;
+        self.drop_first();
+        Some(first)
     }
 }

@@ -5,7 +5,6 @@ use Rattle.model.specs.Summaries.{summary_of}
 use Rattle.sheet.specs.SheetOf.{sheet_of, chart_of}
 use Rattle.journal.specs.Names.{texts}
 use Rattle.journal.specs.Outcomes.{replayed}
-use Rattle.journal.specs.Playing.{process_of, played_of}
 use Rattle.journal.specs.Summaries.{joined}
 use Rattle.journal.proofs.play.Play.outcome.Goals as goal
 

@@ -28,8 +28,8 @@ returns-clause-played c =
     let told : c.told-told.result ≡ t.answer =
     c.told-told.ensures ∙ ap (λ f. said f t.answer) (host.refused ∙ refuses_none x.competition.host (command_of line.event)) in
     let shown : string_bytes x.printed ++ told_line (part_of call) line.number (call_text call)
-        (told_text call c.told-told.result (lent_of c.memory.result.now))
-        ≡ string_bytes x.printed ++ told_line (part_of call) line.number (call_text call) (told_text call t.answer (lent_of y.memory)) =
+    (told_text call c.told-told.result (lent_of c.memory.result.now))
+    ≡ string_bytes x.printed ++ told_line (part_of call) line.number (call_text call) (told_text call t.answer (lent_of y.memory)) =
     (λ i. string_bytes x.printed ++ told_line (part_of call) line.number (call_text call)
     (told_text call (told i) (lent_of (c.memory.ensures i)))) in
     on_ok_weaker c.print.result (λ printed.

@@ -1,7 +1,8 @@
-use Rattle.std.proofs.Common.{◌<◌, length, inl, inr, arith}
-use Rattle.graph.proofs.Rings.{sound, ring_next, Next}
-use Rattle.graph.proofs.queue.Queue.pop.Goals as goal
-use Rattle.graph.proofs.queue.Queue.pop.Goals.{then-self-n, else-self-n}
+-- The ring begins one place further on.
+use Rattle.std.proofs.Common.{◌<◌, ◌∷◌, drop, length, inl, inr, sym, ap, ◌∙◌, arith}
+use Rattle.graph.proofs.Rings.{sound, ring_rest, Next}
+use Rattle.graph.proofs.queue.Queue.drop_first.Goals as goal
+use Rattle.graph.proofs.queue.Queue.drop_first.Goals.{then-self-n, else-self-n}
 
 pub returns-clause-waiting : goal.returns-clause-waiting
 returns-clause-waiting g c =
@@ -14,4 +15,4 @@ returns-clause-waiting g c =
         | else-self-n w ↦ inr (w.self-is, w.if-self-n.false)
       ];
     } in
-    ring_next q.slots.now q.head q.count c.if-self-n.self c.index-self-self.result (sound q) pos to
+    ring_rest q.slots.now q.head q.count c.if-self-n.self (sound q) pos to
