@@ -46,8 +46,3 @@ fits r fs = nat_lt r.count 256 && (nat_le (length fs) 8 && not (any (λ x. not (
 -- predecessors are numbered from 1
 abbrev pub Positive : (ℕ → List ℕ) → Type 0
 Positive preds = (v w : ℕ) → has w (preds v) ≡ true → 1 ≤ w
-
--- row v is live, follows row f by one arrow, and uses its exit: any such row does where the exit is "one", and a row of
--- step k where it is "all"
-abbrev pub follows : Rows → Flow → ℕ → ℕ → ℕ → Bool
-follows r exit k f v = (live (r.state v) && has f (r.preds v)) && by_flow exit true (r.step v == k)

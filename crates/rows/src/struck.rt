@@ -27,10 +27,8 @@ fn listed(set: RowSet) -> ArrayVec<u16, 256>
     ensures { (k : ℕ) → has k result.items ≡ contains set k }
 {
     let mut list = ArrayVec::new();
-    let mut last = 0;
-    while let Some(row) = set.next_above(last) {
+    for row in set.iter() {
         list.push(row);
-        last = row;
     }
     list
 }
@@ -84,10 +82,8 @@ impl RowTable {
     {
         let committed = self.rows_in(RowState::Committed);
         let mut set = RowSet::new();
-        let mut last = 0;
-        while let Some(row) = committed.next_above(last) {
+        for row in committed.iter() {
             set.put(row, marks.is_set(usize::from(row)));
-            last = row;
         }
         set
     }
@@ -133,10 +129,8 @@ impl RowTable {
             (λ x. contains rows.now x && has w ((rows_of self.now).preds x)) }
     {
         let mut before = RowSet::new();
-        let mut last = 0;
-        while let Some(row) = rows.next_above(last) {
+        for row in rows.iter() {
             before.join(&self.before(row));
-            last = row;
         }
         before
     }

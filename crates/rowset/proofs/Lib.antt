@@ -1,4 +1,5 @@
 pub mod Arrays
 pub mod Bits
+pub mod Iteration
 pub mod Loops
 pub mod Members

@@ -2,8 +2,10 @@
 #![tactic(auto)]
 
 ghost use Rattle.std.specs.Prelude.{◌≡◌, ℕ, ◌+◌, ◌<◌, true, false, not, MatchOption, if◌then◌else◌, ◌&&◌, ◌||◌, ◌==◌};
+ghost use Rattle.std.specs.Iterator.{YieldsFirst, item_count};
 ghost use Rattle.graph.specs.Reach.{Least};
 ghost use Rattle.rowset.specs.Members.{is_number, contains};
+ghost use Rattle.rowset.specs.Iteration.{members, rest};
 
 /// How many numbers there are.
 const NUMBERS: usize = 256;
@@ -86,6 +88,13 @@ impl RowSet {
         self.words = std::array::from_fn(|i| words[i] & other.words[i]);
     }
 
+    /// The members, rising.
+    pub fn iter(&self) -> Iter<'_>
+        ensures { rest result ≡ members self.now }
+    {
+        Iter { set: self, last: 0 }
+    }
+
     /// The least member above a number.
     pub fn next_above(&self, number: u16) -> Option<u16>
         ensures { Least (λ k. contains self.now k ≡ true) number result }
@@ -106,5 +115,26 @@ impl RowSet {
             }
         }
         None
+    }
+}
+
+/// The members of a set that are left, rising.
+#[derive(Drop)]
+pub struct Iter<'a> {
+    set: &'a RowSet,
+    last: u16,
+}
+
+impl<'a> Iterator for Iter<'a> {
+    type Item = u16;
+
+    ghost next_gives = { YieldsFirst rest };
+
+    ghost remaining = { item_count rest };
+
+    fn next(&mut self) -> Option<u16> {
+        let next = self.set.next_above(self.last)?;
+        self.last = next;
+        Some(next)
     }
 }

@@ -1,7 +1,8 @@
 -- Running rows dropped at the host, and the rows that fall. Assumes nothing.
-use Rattle.std.proofs.Common.{◌≡◌, ℕ, suc, ◌+◌, ◌<◌, ◌≤◌, Bool, true, false, cond, not, ◌&&◌, [], ◌∷◌, Some, None, Option, sym, ap, ◌∙◌, ap₂, add-one, arith}
-use Rattle.std.proofs.lemmas.Bool.{le-ltb}
-use Rattle.values.specs.Checks.{first_fault, bad, after}
+use Rattle.std.proofs.Common.{◌≡◌, ℕ, suc, ◌+◌, ◌<◌, ◌≤◌, Bool, true, false, cond, not, ◌&&◌, [], ◌∷◌, Some, None, Option, refl, sym, ap, ◌∙◌, ap₂, add-one, inl, inr, arith}
+use Rattle.std.proofs.lemmas.Bool.{le-ltb, cases_Bool, cases_eq, cases_lt}
+use Rattle.std.proofs.lemmas.Bool.Decides.{nat_tests}
+use Rattle.values.specs.Checks.{first_fault, bad, bad_at, after}
 use Rattle.values.specs.declared.Cause.TheVariants.{ShutHost, OtherState}
 use Rattle.values.specs.declared.Fault.{Fault}
 use Rattle.values.specs.declared.HostState.{HostState}
@@ -10,13 +11,16 @@ use Rattle.values.specs.declared.Layer.TheVariants.{Host as OfHost}
 use Rattle.values.specs.Numbers.{same_host_state}
 use Rattle.host.specs.Keys.{key_of, is_row, place_of}
 use Rattle.host.specs.View.{View, move_checks, moved}
-use Rattle.model.specs.Calls.{dropped_below}
+use Rattle.model.specs.Calls.{dropped_below, lowest_row}
 use Rattle.values.specs.declared.RowState.TheVariants.{Running}
-use Rattle.model.specs.Rows.{in_state}
+use Rattle.model.specs.Rows.{Rows, in_state}
+use Rattle.model.specs.Sheet.{Sheet}
 use Rattle.model.proofs.Hosts.{dropped_view}
 use Rattle.rows.specs.declared.table.RowTable.{RowTable}
 use Rattle.rows.specs.Tables.{rows_of}
+use Rattle.rows.proofs.Below.{first_none, first_is}
 use Rattle.rows.proofs.Columns.{known_within}
+use Rattle.sheet.specs.Calls.{drop_checks, not_open}
 use Rattle.graph.specs.Reach.{Least}
 use Rattle.rowset.proofs.Loops.{to_next, to_end}
 
@@ -64,3 +68,103 @@ module _ (runs member : ℕ → Bool) (is : (k : ℕ) → member k ≡ runs k) (
 -- a running row is one of the rows
 pub runs_within : (t : RowTable) (k : ℕ) → in_state (rows_of t) Running k ≡ true → k ≤ (rows_of t).count
 runs_within t k runs = (known_within t.rows.items k (grind arith)).1
+
+pub runs_row : (t : RowTable) (k : ℕ) → in_state (rows_of t) Running k ≡ true → 1 ≤ k
+runs_row t k runs = (known_within t.rows.items k (grind arith)).0
+
+-- and so its key is a row's
+pub runs_as_row : (t : RowTable) (k : ℕ) → in_state (rows_of t) Running k ≡ true → is_row (key_of k) ≡ true
+runs_as_row t k runs =
+    let low = runs_row t k runs in let high = runs_within t k runs in let few = t.few in grind (arith, nat_tests)
+
+-- ── whether the host would drop each running row ──
+
+-- it would drop those up to a number
+pub Clear : Rows → View → ℕ → Type 0
+Clear r v last = (k : ℕ) → k ≤ last → in_state r Running k ≡ true → first_fault (move_checks Open v (key_of k)) ≡ None
+
+-- row 0 is none
+pub clear_first : (t : RowTable) (v : View) → Clear (rows_of t) v 0
+unfolding Clear
+clear_first t v k l runs = absurd (let row = runs_row t k runs in omega (arith, row, l))
+
+module _ (r : Rows) (v : View) (member : ℕ → Bool) (is : (k : ℕ) → member k ≡ in_state r Running k) where
+  -- up to the next running row there is no other
+  pub clear_below : {last n : ℕ} → Least (λ j. member j ≡ true) last (Some n) → Clear r v last
+      → (k : ℕ) → k < n → in_state r Running k ≡ true → first_fault (move_checks Open v (key_of k)) ≡ None
+  unfolding Clear
+  clear_below {last} {n} next clear k l runs = elim (cases_lt last k) [
+    | inl above ↦ absurd (next.2 k above l (is k ∙ runs))
+    | inr below ↦ clear k below runs
+  ]
+
+  pub clear_more : {last n : ℕ} → Least (λ j. member j ≡ true) last (Some n) → Clear r v last
+      → first_fault (move_checks Open v (key_of n)) ≡ None → Clear r v n
+  unfolding Clear
+  clear_more {last} {n} next clear may k l runs = elim (cases_eq k n) [
+    | inl same ↦ ap (λ j. first_fault (move_checks Open v (key_of j))) same ∙ may
+    | inr other ↦ clear_below next clear k (omega (arith, l, other)) runs
+  ]
+
+  pub clear_all : {last : ℕ} → Least (λ j. member j ≡ true) last None → Clear r v last
+      → (k : ℕ) → in_state r Running k ≡ true → first_fault (move_checks Open v (key_of k)) ≡ None
+  unfolding Clear
+  clear_all {last} past clear k runs = elim (cases_lt last k) [
+    | inl above ↦ absurd (past k above (is k ∙ runs))
+    | inr below ↦ clear k below runs
+  ]
+
+clear_shut : (shut runs : Bool) (st : HostState) (k : ℕ) → (runs ≡ true → checks_by shut st k ≡ None) → (shut && runs) ≡ false
+unfolding checks_by
+clear_shut shut true st k clear = let none = clear refl in grind (arith, nat_tests)
+clear_shut shut false st k clear = grind arith
+
+clear_open : (shut runs : Bool) (st : HostState) (k : ℕ) → (runs ≡ true → checks_by shut st k ≡ None)
+    → (runs && not (same_host_state st Open)) ≡ false
+unfolding checks_by
+clear_open shut true st k clear = let none = clear refl in grind (arith, nat_tests)
+clear_open shut false st k clear = grind arith
+
+module _ (s : Sheet) (v : View) where
+  abbrev shut_at : ℕ → Bool
+  shut_at k = v.shut && in_state s.rows Running k
+
+  -- where it would drop all, it declines none
+  pub drops_all : ((k : ℕ) → in_state s.rows Running k ≡ true → first_fault (move_checks Open v (key_of k)) ≡ None)
+      → first_fault (drop_checks s v) ≡ None
+  unfolding checks_by
+  drops_all clear =
+      ap₂ (λ a b. first_fault (bad_at a ShutHost OfHost ∷ bad_at b OtherState OfHost ∷ []))
+      (first_none (s.rows.count + 1) shut_at (λ k l. clear_shut v.shut (in_state s.rows Running k) (v.state k) k (clear k)))
+      (first_none (s.rows.count + 1) (not_open s.rows v) (λ k l. clear_open v.shut (in_state s.rows Running k) (v.state k) k (clear k)))
+
+  -- and the first that it would not is told
+  module _ (n : ℕ) (f : Fault) (within : n ≤ s.rows.count) (row : is_row (key_of n) ≡ true) (runs : in_state s.rows Running n ≡ true)
+      (clear : (k : ℕ) → k < n → in_state s.rows Running k ≡ true → first_fault (move_checks Open v (key_of k)) ≡ None)
+      (fails : first_fault (move_checks Open v (key_of n)) ≡ Some f) where
+    declined_shut : v.shut ≡ true → first_fault (drop_checks s v) ≡ Some f
+    unfolding checks_by
+    declined_shut shut =
+        let here : shut_at n ≡ true = ap₂ ◌&&◌ shut runs in
+        ap (λ a. first_fault (bad_at a ShutHost OfHost ∷ bad_at (lowest_row s.rows (not_open s.rows v)) OtherState OfHost ∷ []))
+        (first_is (s.rows.count + 1) shut_at n (omega arith) here
+        (λ k l. clear_shut v.shut (in_state s.rows Running k) (v.state k) k (clear k l)))
+        ∙ sym (ap (λ b. checks_by b (v.state n) n) shut) ∙ fails
+
+    declined_state : v.shut ≡ false → first_fault (drop_checks s v) ≡ Some f
+    unfolding checks_by
+    declined_state open_host =
+        let here : not_open s.rows v n ≡ true = grind (arith, nat_tests) in
+        ap₂ (λ a b. first_fault (bad_at a ShutHost OfHost ∷ bad_at b OtherState OfHost ∷ []))
+        (first_none (s.rows.count + 1) shut_at (λ k l. ap (λ b. b && in_state s.rows Running k) open_host))
+        (first_is (s.rows.count + 1) (not_open s.rows v) n (omega arith) here
+        (λ k l. clear_open v.shut (in_state s.rows Running k) (v.state k) k (clear k l)))
+        ∙ (let other : not (is_row (key_of n) && same_host_state (v.state n) Open) ≡ true = grind (arith, nat_tests) in
+        sym (ap₂ (λ b t. first_fault (bad b ShutHost OfHost (place_of (key_of n)) ∷ bad t OtherState OfHost (place_of (key_of n)) ∷ [])) open_host other))
+        ∙ fails
+
+    pub declines_first : first_fault (drop_checks s v) ≡ Some f
+    declines_first = elim (cases_Bool v.shut) [
+      | inl t ↦ declined_shut t
+      | inr t ↦ declined_state t
+    ]

@@ -37,14 +37,16 @@ Starts c s v k fs e =
 abbrev pub not_open : Rows → View → ℕ → Bool
 not_open r v k = in_state r Running k && not (same_host_state (v.state (key_of k)) Open)
 
--- the checks of abort after that of the memory
-abbrev pub abort_own_checks : Sheet → View → Mode → List (Option Fault)
-abort_own_checks s v m =
-    phase_check s Forward
-    ∷ mode_check s.rows m
-    ∷ bad_at (lowest_row s.rows (λ k. v.shut && in_state s.rows Running k)) ShutHost OfHost
+-- the checks of the host in an abort: each running row can be dropped
+abbrev pub drop_checks : Sheet → View → List (Option Fault)
+drop_checks s v =
+    bad_at (lowest_row s.rows (λ k. v.shut && in_state s.rows Running k)) ShutHost OfHost
     ∷ bad_at (lowest_row s.rows (not_open s.rows v)) OtherState OfHost
     ∷ []
+
+-- the checks of abort after that of the memory
+abbrev pub abort_own_checks : Sheet → View → Mode → List (Option Fault)
+abort_own_checks s v m = phase_check s Forward ∷ mode_check s.rows m ∷ drop_checks s v
 
 -- each running row can be dropped at the host
 abbrev pub Droppable : Rows → View → Type 0

@@ -23,10 +23,15 @@ abbrev pub numbers_of : Result Ticket Fault → Result TicketNumber Fault
 numbers_of (Ok t) = Ok t.number
 numbers_of (Err f) = Err f
 
--- running rows dropped, also at the host, struck rows due or passed over, and the ticket of the rollback; in memory of these lengths
+-- running rows dropped, also at the host, struck rows due or passed over, and the numbers of the rollback's ticket; in memory of
+-- these lengths
+abbrev pub AbortsNumbered : Chart → Sheet → View → Mode → ℕ → ℕ → Result TicketNumber Fault → Sheet → View → Type 0
+AbortsNumbered c s v m column line =
+    Comes (abort_fault s v m column line) (ticket_of (aborted c s m)) s (aborted c s m) v (all_dropped s.rows v)
+
+-- the same with the ticket
 abbrev pub Aborts : Chart → Sheet → View → Mode → ℕ → ℕ → Result Ticket Fault → Sheet → View → Type 0
-Aborts c s v m column line r =
-    Comes (abort_fault s v m column line) (ticket_of (aborted c s m)) s (aborted c s m) v (all_dropped s.rows v) (numbers_of r)
+Aborts c s v m column line r = AbortsNumbered c s v m column line (numbers_of r)
 
 -- the checks of undo between that of the memory and those of the host
 abbrev pub undo_own_checks : Sheet → TicketNumber → ℕ → List (Option Fault)
@@ -43,13 +48,22 @@ abbrev pub fault_only : Result (Unit {0}) (Ticket × Fault) → Result (Unit {0}
 fault_only (Ok u) = Ok u
 fault_only (Err e) = Err e.1
 
--- a ticket ended, and the sheet in another phase; a declined call hands that very ticket back
+-- the sheet in another phase
+pub record Turns (f : Option Fault) (s new : Sheet) (r : Result (Unit {0}) Fault) (s' : Sheet) : Type 0 where
+  pub answers : r ≡ answer f tt
+  pub sheet : s' ≡ after f s new
+
+-- the same with a ticket, which is ended; a declined call hands that very ticket back
 pub record Leaves (f : Option Fault) (t : Ticket) (s new : Sheet) (r : Result (Unit {0}) (Ticket × Fault)) (s' : Sheet) : Type 0 where
   pub answers : fault_only r ≡ answer f tt
   pub sheet : s' ≡ after f s new
   pub back : IfErr r (λ e. e.0 ≡ t)
 
--- a parked rollback taken up again, with its ticket
-pub record Resumes (s : Sheet) (r : Result Ticket Fault) (s' : Sheet) : Type 0 where
-  pub answers : numbers_of r ≡ answer (resume_fault s) (ticket_of s)
+-- a parked rollback taken up again, with the numbers of its ticket
+pub record ResumesNumbered (s : Sheet) (r : Result TicketNumber Fault) (s' : Sheet) : Type 0 where
+  pub answers : r ≡ answer (resume_fault s) (ticket_of s)
   pub sheet : s' ≡ after (resume_fault s) s (with_phase s Undoing)
+
+-- the same with the ticket
+abbrev pub Resumes : Sheet → Result Ticket Fault → Sheet → Type 0
+Resumes s r s' = ResumesNumbered s (numbers_of r) s'

@@ -1,31 +1,19 @@
 // The rows searched.
-ghost use Rattle.std.specs.Prelude.{◌≡◌, ℕ, ◌+◌, true, ◌&&◌, ◌==◌};
+ghost use Rattle.std.specs.Prelude.{◌≡◌, ℕ, true, ◌&&◌};
 ghost use Rattle.values.specs.declared.RowState.{RowState as State};
 ghost use Rattle.values.specs.declared.RowState.TheVariants.{Due};
 ghost use Rattle.graph.specs.Reach.{Least};
-ghost use Rattle.model.specs.Search.{any_below, has};
-ghost use Rattle.model.specs.Chart.{by_flow};
+ghost use Rattle.model.specs.Search.{has};
 ghost use Rattle.model.specs.Rows.{in_state, live, any_live};
 ghost use Rattle.model.specs.Calls.{lowest_row};
 ghost use Rattle.rowset.specs.Members.{contains};
 ghost use Rattle.rows.specs.Tables.{rows_of};
-ghost use Rattle.rows.specs.Columns.{follows};
 ghost use Rattle.rows.specs.States.{row_in};
 
 use super::RowTable;
 use crate::counted::numbered;
 use rowset::RowSet;
-use values::{Flow, RowState};
-
-// Whether a row of one step uses up an exit, which takes one branch or all of them, for a row of another.
-fn uses_exit(exit: Flow, of: u16, step: u16) -> bool
-    ensures { result ≡ by_flow exit true (of == step) }
-{
-    match exit {
-        Flow::One => true,
-        Flow::All => of == step,
-    }
-}
+use values::RowState;
 
 impl RowTable {
     /// Whether a row is in that state.
@@ -82,29 +70,13 @@ impl RowTable {
         self.rows_in(RowState::Due).next_above(after)
     }
 
-    // The live rows that follow a row by one arrow.
-    fn live_followers(&self, earlier: u16) -> RowSet
+    /// The live rows that follow a row by one arrow.
+    pub fn live_followers(&self, earlier: u16) -> RowSet
         ensures { (k : ℕ) → contains result k
             ≡ (live ((rows_of self.now).state k) && has earlier ((rows_of self.now).preds k)) }
     {
         let mut live = self.live();
         live.meet(&self.followers(earlier));
         live
-    }
-
-    /// Whether the exit of a row, which takes one branch or all of them, is used up for a row of the step.
-    pub fn is_exit_used(&self, exit: Flow, step: u16, number: u16) -> bool
-        ensures { result ≡ any_below ((rows_of self.now).count + 1)
-            (follows (rows_of self.now) exit step number) }
-    {
-        let followers = self.live_followers(number);
-        let mut after = 0;
-        while let Some(follower) = followers.next_above(after) {
-            if uses_exit(exit, self.step(follower), step) {
-                return true;
-            }
-            after = follower;
-        }
-        false
     }
 }

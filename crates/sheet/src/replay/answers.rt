@@ -2,10 +2,8 @@
 ghost use Rattle.std.specs.Prelude.{◌≡◌};
 ghost use Rattle.values.specs.declared.Answer.TheVariants.{Row, Done, Listed, Ticket as TicketGiven};
 ghost use Rattle.sheet.specs.Happenings.{told};
-ghost use Rattle.sheet.specs.Tickets.{numbers_of, fault_only};
 
-use crate::ticket::Ticket;
-use values::{Answer, Fault};
+use values::{Answer, Fault, TicketNumber};
 
 // The answer of a call that answers a row's number.
 pub(crate) fn row(number: Result<u16, Fault>) -> Answer
@@ -27,30 +25,13 @@ pub(crate) fn done(end: Result<(), Fault>) -> Answer
     }
 }
 
-// The answer of a call that gives a ticket.
-pub(crate) fn given(ticket: Result<Ticket, Fault>) -> Answer
-    ensures { result ≡ told TicketGiven (numbers_of ticket) }
+// The answer of a call that gives a ticket, by its numbers.
+pub(crate) fn given(ticket: Result<TicketNumber, Fault>) -> Answer
+    ensures { result ≡ told TicketGiven ticket }
 {
     match ticket {
-        Ok(ticket) => {
-            let number = ticket.number();
-            ticket.spend();
-            Answer::Ticket(number)
-        }
+        Ok(number) => Answer::Ticket(number),
         Err(fault) => Answer::Declined(fault),
-    }
-}
-
-// The answer of a call that ends a ticket.
-pub(crate) fn ended(end: Result<(), (Ticket, Fault)>) -> Answer
-    ensures { result ≡ told (λ _. Done) (fault_only end) }
-{
-    match end {
-        Ok(()) => Answer::Done,
-        Err((ticket, fault)) => {
-            ticket.spend();
-            Answer::Declined(fault)
-        }
     }
 }
 

@@ -4,13 +4,12 @@ ghost use Rattle.model.specs.Run.{start, end, abort, undo, finish, park, resume,
 ghost use Rattle.sheet.specs.Runs.{world_of, process_of, Does};
 
 use super::Competition;
-use super::answers::{done, ended, given, listed, row};
+use super::answers::{done, given, listed, row};
 use crate::memory::Memory;
-use crate::ticket::Ticket;
 use host::Host;
 use values::{Answer, Entry, Mode, TicketNumber};
 
-// A journal shows a ticket by its numbers: one with these numbers is made for the call, and ended after it.
+// A journal shows a ticket by its numbers, so these calls are made by them.
 impl<X: Host> Competition<X> {
     pub(crate) fn start(&mut self, step: u16, predecessors: &[u16], entry: Entry) -> Answer
         ensures does { Does (process_of self.old) (world_of X.Host.view self.old) (start step predecessors.now entry)
@@ -35,7 +34,7 @@ impl<X: Host> Competition<X> {
         ensures process { process_of self.new ≡ process_of self.old }
     {
         let Memory { column, line, .. } = &mut self.memory;
-        given(self.sheet.abort(&mut self.host, mode, column, line))
+        given(self.sheet.abort_numbered(&mut self.host, mode, column, line))
     }
 
     pub(crate) fn undo(&mut self, number: TicketNumber, row: u16) -> Answer
@@ -43,11 +42,8 @@ impl<X: Host> Competition<X> {
         ensures goes { X.Host.goes self.old.host self.new.host }
         ensures process { process_of self.new ≡ process_of self.old }
     {
-        let ticket = Ticket::new(number);
         let Memory { column, line, .. } = &mut self.memory;
-        let undone = self.sheet.undo(&mut self.host, &ticket, row, column, line);
-        ticket.spend();
-        done(undone)
+        done(self.sheet.undo_numbered(&mut self.host, number, row, column, line))
     }
 
     pub(crate) fn finish(&mut self, number: TicketNumber) -> Answer
@@ -55,7 +51,7 @@ impl<X: Host> Competition<X> {
         ensures goes { X.Host.goes self.old.host self.new.host }
         ensures process { process_of self.new ≡ process_of self.old }
     {
-        ended(self.sheet.finish(Ticket::new(number)))
+        done(self.sheet.finish_numbered(number))
     }
 
     pub(crate) fn park(&mut self, number: TicketNumber) -> Answer
@@ -63,7 +59,7 @@ impl<X: Host> Competition<X> {
         ensures goes { X.Host.goes self.old.host self.new.host }
         ensures process { process_of self.new ≡ process_of self.old }
     {
-        ended(self.sheet.park(Ticket::new(number)))
+        done(self.sheet.park_numbered(number))
     }
 
     pub(crate) fn resume(&mut self) -> Answer
@@ -71,7 +67,7 @@ impl<X: Host> Competition<X> {
         ensures goes { X.Host.goes self.old.host self.new.host }
         ensures process { process_of self.new ≡ process_of self.old }
     {
-        given(self.sheet.resume())
+        given(self.sheet.resume_numbered())
     }
 
     pub(crate) fn listing(&mut self) -> Answer

@@ -1,16 +1,14 @@
 // Rolling back.
-ghost use Rattle.std.specs.Prelude.{◌≡◌, ◌&&◌, true, false, None, length};
+ghost use Rattle.std.specs.Prelude.{◌≡◌, true, false, None, length};
 ghost use Rattle.graph.specs.Held.{held};
 ghost use Rattle.graph.specs.Scratch.{SameLoans};
 ghost use Rattle.process.specs.Accepted.{enough};
 ghost use Rattle.model.specs.Run.{column_after};
 ghost use Rattle.model.specs.Sheet.{aborted};
 ghost use Rattle.values.specs.Checks.{answer, first_fault};
-ghost use Rattle.values.specs.declared.RowState.TheVariants.{Running};
-ghost use Rattle.model.specs.Rows.{in_state};
-ghost use Rattle.model.specs.Calls.{lowest_row, mode_check, all_dropped};
-ghost use Rattle.sheet.specs.Calls.{abort_own_checks, not_open, Droppable};
-ghost use Rattle.sheet.specs.Tickets.{Aborts};
+ghost use Rattle.model.specs.Calls.{mode_check, all_dropped};
+ghost use Rattle.sheet.specs.Calls.{abort_own_checks, drop_checks, Droppable};
+ghost use Rattle.sheet.specs.Tickets.{Aborts, AbortsNumbered};
 ghost use Rattle.sheet.specs.SheetOf.{sheet_of, chart_of};
 
 use super::Sheet;
@@ -19,51 +17,29 @@ use crate::ticket::Ticket;
 use graph::marks::Marks;
 use graph::scratch::Scratch;
 use host::{Host, row_key};
-use values::{Cause, Fault, HostState, Layer, Mode, Phase, RowState};
+use values::{Cause, Fault, HostState, Layer, Mode, Phase, RowState, TicketNumber};
 
 impl Sheet {
-    // The lowest running row that is not open at the host.
-    fn lowest_not_open<X: Host>(&self, host: &X) -> Option<u16>
-        ensures { result ≡ lowest_row (sheet_of self.now).rows
-            (not_open (sheet_of self.now).rows (X.Host.view host.now)) }
+    // Asks the host of each running row, from the lowest on, whether it may drop it.
+    fn may_drop_running<X: Host>(&self, host: &X) -> Result<(), Fault>
+        ensures { result ≡ answer (first_fault (drop_checks (sheet_of self.now) (X.Host.view host.now))) tt }
     {
-        // the project fixes a labelled search here
-        let running = self.table.rows_in(RowState::Running);
-        let mut found = None;
-        let mut last = 0;
-        'rows: while let Some(row) = running.next_above(last) {
-            if host.state(row_key(row)) != HostState::Open {
-                found = Some(row);
-                break 'rows;
-            }
-            last = row;
+        let to_drop = self.table.rows_in(RowState::Running);
+        for row in to_drop.iter() {
+            host.may_move(row_key(row), HostState::Open)?;
         }
-        found
+        Ok(())
     }
 
-    // The lowest running row, where the host is shut.
-    fn lowest_shut<X: Host>(&self, host: &X) -> Option<u16>
-        ensures { result ≡ lowest_row (sheet_of self.now).rows (λ k. (X.Host.view host.now).shut
-            && in_state (sheet_of self.now).rows Running k) }
-    {
-        if host.is_shut() {
-            self.table.lowest(RowState::Running)
-        } else {
-            None
-        }
-    }
-
-    // Drops all running rows at the host. The number is the row's name there, so the loop is over numbers.
+    // Drops all running rows at the host.
     fn drop_running<X: Host>(&self, host: &mut X)
         requires { Droppable (sheet_of self.now).rows (X.Host.view host.old) }
         ensures drops { X.Host.view host.new ≡ all_dropped (sheet_of self.now).rows (X.Host.view host.old) }
         ensures goes { X.Host.goes host.old host.new }
     {
         let to_drop = self.table.rows_in(RowState::Running);
-        let mut last = 0;
-        while let Some(row) = to_drop.next_above(last) {
+        for row in to_drop.iter() {
             host.drop_row(row_key(row)).unwrap();
-            last = row;
         }
     }
 
@@ -82,13 +58,7 @@ impl Sheet {
     {
         self.wants(Phase::Forward)?;
         self.wants_mode(mode)?;
-        if let Some(row) = self.lowest_shut(host) {
-            return Err(Layer::Host.fault(Cause::ShutHost, usize::from(row)));
-        }
-        if let Some(row) = self.lowest_not_open(host) {
-            return Err(Layer::Host.fault(Cause::OtherState, usize::from(row)));
-        }
-        Ok(())
+        self.may_drop_running(host)
     }
 
     // Takes back what the abort strikes: the marks first, then the running rows at the host, then all rows of the sheet.
@@ -114,6 +84,32 @@ impl Sheet {
         self.graph = self.table.rows_in(RowState::Due);
     }
 
+    // Abort, by the numbers of the rollback's ticket.
+    pub(crate) fn abort_numbered<X: Host>(
+        &mut self,
+        host: &mut X,
+        mode: Mode,
+        column: &mut [u8],
+        line: &mut [u16],
+    ) -> Result<TicketNumber, Fault>
+        ensures comes { AbortsNumbered (chart_of self.old) (sheet_of self.old) (X.Host.view host.old) mode
+            (length column.old) (length line.old) result (sheet_of self.new) (X.Host.view host.new) }
+        ensures goes { X.Host.goes host.old host.new }
+        ensures process { self.new.process ≡ self.old.process }
+        ensures column { column.new ≡ column_after column.old (length line.old) }
+        ensures line { enough (length column.old) (length line.old) ≡ false → line.new ≡ line.old }
+    {
+        wants_memory(column, line)?;
+        let mut marks = Marks::new(column);
+        self.may_abort(host, mode)?;
+        let mut scratch = Scratch {
+            marks: &mut marks,
+            line,
+        };
+        self.roll_back(host, mode, &mut scratch);
+        Ok(self.current())
+    }
+
     /// Rolls back, all of it or what a failing row calls for: running rows are dropped, on the sheet and at the host, and
     /// struck rows are due or passed over. Gives the ticket of the rollback.
     pub fn abort<X: Host>(
@@ -130,14 +126,7 @@ impl Sheet {
         ensures column { column.new ≡ column_after column.old (length line.old) }
         ensures line { enough (length column.old) (length line.old) ≡ false → line.new ≡ line.old }
     {
-        wants_memory(column, line)?;
-        let mut marks = Marks::new(column);
-        self.may_abort(host, mode)?;
-        let mut scratch = Scratch {
-            marks: &mut marks,
-            line,
-        };
-        self.roll_back(host, mode, &mut scratch);
-        Ok(Ticket::new(self.current()))
+        let number = self.abort_numbered(host, mode, column, line)?;
+        Ok(Ticket::new(number))
     }
 }

@@ -40,10 +40,8 @@ impl Points {
         ensures { Puts (listed self) 0 table.old result table.new }
     {
         let mut next = put_if(self.start, 0, table, 0);
-        let mut last = 0;
-        while let Some(row) = self.stops.next_above(last) {
+        for row in self.stops.iter() {
             next = put(row, table, next);
-            last = row;
         }
         next
     }
@@ -57,10 +55,8 @@ impl Sheet {
         ensures { Puts (arrows_from (sheet_of self.now) from) at table.old result table.new }
     {
         let mut next = at;
-        let mut last = 0;
-        while let Some(row) = to.next_above(last) {
+        for row in to.iter() {
             next = put(RowArrow { from, to: row }, table, next);
-            last = row;
         }
         next
     }
@@ -96,14 +92,7 @@ impl Sheet {
         ensures { result ≡ any_below ((sheet_of self.now).rows.count + 1)
             (λ x. contains rows.now x && (sheet_of self.now).rows.step x == 1) }
     {
-        let mut last = 0;
-        while let Some(row) = rows.next_above(last) {
-            if self.table.step(row) == 1 {
-                return true;
-            }
-            last = row;
-        }
-        false
+        rows.iter().any(|row| self.table.step(row) == 1)
     }
 
     // Those of some rows that are savepoints.
@@ -112,10 +101,8 @@ impl Sheet {
             ≡ (is_savepoint (chart_of self.now) (sheet_of self.now).rows k && contains rows k) }
     {
         let mut savepoints = RowSet::new();
-        let mut last = 0;
-        while let Some(row) = rows.next_above(last) {
+        for row in rows.iter() {
             savepoints.put(row, self.table.is_savepoint(self.process.steps(), row));
-            last = row;
         }
         savepoints
     }

@@ -5,7 +5,7 @@ ghost use Rattle.values.specs.declared.Phase.TheVariants.{Forward, Undoing, Park
 ghost use Rattle.model.specs.Calls.{phase_check, ticket_check, finish_fault, park_fault, resume_fault};
 ghost use Rattle.model.specs.Sheet.{ticket_of, with_phase};
 ghost use Rattle.sheet.specs.SheetOf.{sheet_of};
-ghost use Rattle.sheet.specs.Tickets.{Leaves, Resumes};
+ghost use Rattle.sheet.specs.Tickets.{Turns, Leaves, ResumesNumbered, Resumes};
 
 use super::Sheet;
 use crate::ticket::Ticket;
@@ -51,17 +51,48 @@ impl Sheet {
         Ok(())
     }
 
+    // Finish, by the numbers of the ticket.
+    pub(crate) fn finish_numbered(&mut self, ticket: TicketNumber) -> Result<(), Fault>
+        ensures comes { Turns (finish_fault (sheet_of self.old) ticket) (sheet_of self.old)
+            (with_phase (sheet_of self.old) Forward) result (sheet_of self.new) }
+        ensures process { self.new.process ≡ self.old.process }
+    {
+        self.may_finish(ticket)?;
+        self.phase = Phase::Forward;
+        Ok(())
+    }
+
+    // Park, by the numbers of the ticket.
+    pub(crate) fn park_numbered(&mut self, ticket: TicketNumber) -> Result<(), Fault>
+        ensures comes { Turns (park_fault (sheet_of self.old) ticket) (sheet_of self.old)
+            (with_phase (sheet_of self.old) Parked) result (sheet_of self.new) }
+        ensures process { self.new.process ≡ self.old.process }
+    {
+        self.wants_rollback(ticket)?;
+        self.phase = Phase::Parked;
+        Ok(())
+    }
+
+    // Resume, by the numbers of the ticket.
+    pub(crate) fn resume_numbered(&mut self) -> Result<TicketNumber, Fault>
+        ensures comes { ResumesNumbered (sheet_of self.old) result (sheet_of self.new) }
+        ensures process { self.new.process ≡ self.old.process }
+    {
+        self.wants(Phase::Parked)?;
+        self.phase = Phase::Undoing;
+        Ok(self.current())
+    }
+
     /// Ends the rollback, where no row is due any more. A declined call hands the ticket back.
     pub fn finish(&mut self, ticket: Ticket) -> Result<(), (Ticket, Fault)>
         ensures comes { Leaves (finish_fault (sheet_of self.old) ticket.number) ticket (sheet_of self.old)
             (with_phase (sheet_of self.old) Forward) result (sheet_of self.new) }
         ensures process { self.new.process ≡ self.old.process }
     {
-        if let Err(fault) = self.may_finish(ticket.number()) {
+        if let Err(fault) = self.finish_numbered(ticket.number()) {
             return Err((ticket, fault));
         }
         ticket.spend();
-        self.phase = Phase::Forward;
         Ok(())
     }
 
@@ -71,11 +102,10 @@ impl Sheet {
             (with_phase (sheet_of self.old) Parked) result (sheet_of self.new) }
         ensures process { self.new.process ≡ self.old.process }
     {
-        if let Err(fault) = self.wants_rollback(ticket.number()) {
+        if let Err(fault) = self.park_numbered(ticket.number()) {
             return Err((ticket, fault));
         }
         ticket.spend();
-        self.phase = Phase::Parked;
         Ok(())
     }
 
@@ -84,8 +114,7 @@ impl Sheet {
         ensures comes { Resumes (sheet_of self.old) result (sheet_of self.new) }
         ensures process { self.new.process ≡ self.old.process }
     {
-        self.wants(Phase::Parked)?;
-        self.phase = Phase::Undoing;
-        Ok(Ticket::new(self.current()))
+        let number = self.resume_numbered()?;
+        Ok(Ticket::new(number))
     }
 }

@@ -1,9 +1,9 @@
 // Starting a row.
-ghost use Rattle.std.specs.Prelude.{◌≡◌, ◌<◌, not, ◌&&◌, ◌||◌, length, ◌==◌, nat_eq, slice_index};
+ghost use Rattle.std.specs.Prelude.{◌≡◌, ℕ, ◌+◌, ◌<◌, true, false, not, ◌&&◌, ◌||◌, length, ◌==◌, slice_index};
 ghost use Rattle.values.specs.Checks.{answer, first_fault};
 ghost use Rattle.values.specs.declared.RowState.TheVariants.{Committed};
-ghost use Rattle.model.specs.Search.{any_below};
-ghost use Rattle.model.specs.Chart.{is_arrow, wanted};
+ghost use Rattle.model.specs.Search.{first_below};
+ghost use Rattle.model.specs.Chart.{by_flow, is_arrow};
 ghost use Rattle.model.specs.Rows.{in_state, any_live};
 ghost use Rattle.model.specs.Calls.{phase_check};
 ghost use Rattle.sheet.specs.Candidates.{sheet_for, chart_for, counted, unfit, used, fair, checks};
@@ -25,30 +25,30 @@ struct Candidate<'a> {
     entry: Entry,
 }
 
-impl Candidate<'_> {
-    // How many predecessors it wants.
-    fn wanted(&self) -> usize
-        ensures { result ≡ wanted (chart_for self.now) self.now.step }
-    {
-        if self.step == 1 {
-            return 0;
-        }
-        match step_at(self.sheet.process.steps(), self.step).entry {
-            Flow::One => 1,
-            Flow::All => arrows_into(&self.sheet.process, self.step),
-        }
+// Whether a row of one step uses up an exit, which takes one branch or all of them, for a row of another.
+fn uses_exit(exit: Flow, of: u16, step: u16) -> bool
+    ensures { result ≡ by_flow exit true (of == step) }
+{
+    match exit {
+        Flow::One => true,
+        Flow::All => of == step,
     }
+}
 
-    // Whether it has as many predecessors as it wants.
+impl Candidate<'_> {
+    // Whether it has as many predecessors as it wants: of step 1 none, else by the step's entry one, or one for each arrow.
     fn counts(&self) -> bool
         ensures { result ≡ counted self.now }
     {
-        let wanted = self.wanted();
-        // the project fixes this form: none, one, or a first and the rest
-        match self.predecessors {
-            [] => wanted == 0,
-            [_one] => wanted == 1,
-            [_first, rest @ ..] => rest.len() + 1 == wanted,
+        let process = &self.sheet.process;
+        if self.step == 1 {
+            return self.predecessors.is_empty();
+        }
+        match (step_at(process.steps(), self.step).entry, self.predecessors) {
+            (Flow::One, [_one]) => true,
+            (Flow::One, _) => false,
+            (Flow::All, []) => arrows_into(process, self.step) == 0,
+            (Flow::All, [_first, rest @ ..]) => rest.len() + 1 == arrows_into(process, self.step),
         }
     }
 
@@ -62,39 +62,61 @@ impl Candidate<'_> {
             && is_arrow(&self.sheet.process, table.step(row), self.step)
     }
 
-    // The next three take a place among the predecessors: as the predecessor itself it could not say which are earlier.
-
-    // Whether an earlier predecessor is of the same step as the one at that place.
-    fn is_met_earlier(&self, place: usize) -> bool
-        requires { place < length self.now.predecessors.now }
-        ensures { result ≡ any_below place (λ j.
-            nat_eq ((sheet_for self.now).rows.step (slice_index self.now.predecessors.now j))
-            ((sheet_for self.now).rows.step (slice_index self.now.predecessors.now place))) }
+    // The first predecessor that it cannot follow: one that is not committed or has no arrow to the step, or is of the step
+    // of an earlier one.
+    fn first_unfit(&self) -> Option<usize>
+        ensures { result ≡ first_below (length self.now.predecessors.now) (unfit self.now) }
     {
-        let table = &self.sheet.table;
-        let step = table.step(self.predecessors[place]);
-        self.predecessors[..place]
-            .iter()
-            .any(|&row| table.step(row) == step)
+        match self.predecessors {
+            [] => None,
+            [first, ..] if !self.may_follow(*first) => Some(0),
+            [_one] => None,
+            [_first, rest @ ..] => self.first_unfit_of(rest),
+        }
     }
 
-    // Whether it cannot follow the predecessor at that place.
-    fn is_unfit(&self, place: usize) -> bool
-        requires { place < length self.now.predecessors.now }
-        ensures { result ≡ unfit self.now place }
+    // The same among the predecessors after the first, which it can follow.
+    fn first_unfit_of(&self, rest: &[u16]) -> Option<usize>
+        requires rest { (i : ℕ) → i < length rest.now → slice_index rest.now i ≡ slice_index self.now.predecessors.now (i + 1) }
+        requires all { length self.now.predecessors.now ≡ length rest.now + 1 }
+        requires first { unfit self.now 0 ≡ false }
+        ensures { result ≡ first_below (length self.now.predecessors.now) (unfit self.now) }
     {
-        !self.may_follow(self.predecessors[place]) || self.is_met_earlier(place)
+        let table = &self.sheet.table;
+        let mut found = None;
+        'rest: for i in 0..rest.len() {
+            let row = rest[i];
+            if !self.may_follow(row) {
+                found = Some(i + 1);
+                break 'rest;
+            }
+            for earlier in &self.predecessors[..i + 1] {
+                if table.step(*earlier) == table.step(row) {
+                    found = Some(i + 1);
+                    break 'rest;
+                }
+            }
+        }
+        found
     }
 
-    // Whether the exit of the predecessor at that place is used.
-    fn is_used(&self, place: usize) -> bool
-        requires { place < length self.now.predecessors.now }
-        ensures { result ≡ used self.now place }
+    // The first predecessor whose exit is used: by any live row after it by one arrow, or by one of the candidate's step.
+    fn first_used(&self) -> Option<usize>
+        ensures { result ≡ first_below (length self.now.predecessors.now) (used self.now) }
     {
-        let row = self.predecessors[place];
         let table = &self.sheet.table;
-        let exit = step_at(self.sheet.process.steps(), table.step(row)).exit;
-        table.is_exit_used(exit, self.step, row)
+        let mut found = None;
+        'predecessors: for i in 0..self.predecessors.len() {
+            let row = self.predecessors[i];
+            let exit = step_at(self.sheet.process.steps(), table.step(row)).exit;
+            for follower in table.live_followers(row).iter() {
+                if uses_exit(exit, table.step(follower), self.step) {
+                    found = Some(i);
+                    break 'predecessors;
+                }
+            }
+        }
+        found
     }
 
     // Whether its entry is of the step's kind, and in range.
@@ -126,10 +148,10 @@ impl Candidate<'_> {
         if self.is_miscounted() {
             return Err(Layer::Sheet.fault(Cause::WrongCount, count));
         }
-        if let Some(place) = (0..count).find(|&place| self.is_unfit(place)) {
+        if let Some(place) = self.first_unfit() {
             return Err(Layer::Sheet.fault(Cause::UnfitPredecessor, place));
         }
-        if let Some(place) = (0..count).find(|&place| self.is_used(place)) {
+        if let Some(place) = self.first_used() {
             return Err(Layer::Sheet.fault(Cause::UsedExit, place));
         }
         if !self.is_lawful() {

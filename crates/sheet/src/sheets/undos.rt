@@ -31,7 +31,35 @@ impl Sheet {
         }
     }
 
-    /// Undoes a due row, also at the host, where no row after it is due.
+    // Undo, by the numbers of the ticket.
+    pub(crate) fn undo_numbered<X: Host>(
+        &mut self,
+        host: &mut X,
+        ticket: TicketNumber,
+        row: u16,
+        column: &mut [u8],
+        line: &mut [u16],
+    ) -> Result<(), Fault>
+        ensures comes { Undoes (sheet_of self.old) (X.Host.view host.old) ticket row
+            (length column.old) (length line.old) result (sheet_of self.new) (X.Host.view host.new) }
+        ensures goes { X.Host.goes host.old host.new }
+        ensures process { self.new.process ≡ self.old.process }
+        ensures column { column.new ≡ column_after column.old (length line.old) }
+        ensures line { enough (length column.old) (length line.old) ≡ false → line.new ≡ line.old }
+    {
+        wants_memory(column, line)?;
+        let mut marks = Marks::new(column);
+        let mut scratch = Scratch {
+            marks: &mut marks,
+            line,
+        };
+        self.may_undo(ticket, row, &mut scratch)?;
+        host.undo(row_key(row))?;
+        self.table.set_state(row, RowState::Undone);
+        Ok(())
+    }
+
+    /// Undoes a due row, also at the host, where no row after it is due. The ticket is only shown.
     pub fn undo<X: Host>(
         &mut self,
         host: &mut X,
@@ -47,15 +75,6 @@ impl Sheet {
         ensures column { column.new ≡ column_after column.old (length line.old) }
         ensures line { enough (length column.old) (length line.old) ≡ false → line.new ≡ line.old }
     {
-        wants_memory(column, line)?;
-        let mut marks = Marks::new(column);
-        let mut scratch = Scratch {
-            marks: &mut marks,
-            line,
-        };
-        self.may_undo(ticket.number(), row, &mut scratch)?;
-        host.undo(row_key(row))?;
-        self.table.set_state(row, RowState::Undone);
-        Ok(())
+        self.undo_numbered(host, ticket.number(), row, column, line)
     }
 }

@@ -1,7 +1,9 @@
-use Rattle.std.proofs.Common.{◌≡◌, ℕ, ◌+◌, Bool, true, sym, ◌∙◌, rules, arith}
+use Rattle.std.proofs.Common.{◌≡◌, ℕ, ◌+◌, ◌≤◌, Bool, true, sym, subst, ap, ◌∙◌, rules, arith}
 use Rattle.values.specs.declared.RowState.TheVariants.{Running}
 use Rattle.model.specs.Rows.{in_state}
+use Rattle.model.specs.Calls.{dropped_below}
 use Rattle.rowset.specs.Members.{contains}
+use Rattle.rowset.proofs.Iteration.{top_more, next_member, no_next_member}
 use Rattle.sheet.specs.SheetOf.{sheet_of}
 use Rattle.sheet.proofs.Aborting.{still_droppable, dropped_one, dropped_to, dropped_all, runs_within}
 use Rattle.sheet.proofs.sheets.Sheet.drop_running.Goals as goal
@@ -12,10 +14,12 @@ unwrap-requires g c =
     let member : ℕ → Bool = contains c.rows_in-to_drop.result in
     let is : (k : ℕ) → member k ≡ runs k = c.rows_in-to_drop.ensures in
     let n = c.in-Some.row in
+    let next = next_member c.rows_in-to_drop.result _ _ c.into_iter-row-iterator.ensures.into_iter_gives c.iter-row-items.ensures
+    c.loop-row.yielded_by c.in-Some.ensures.steps in
     let v = g.X.Host.view c.args.host.now in
     let drops = simp c.row_key.ensures at c.drop_row.ensures.does.answers in
-    let here = dropped_to runs member is v c.in-Some.ensures c.loop-row.invariant.dropped in
-    let may = c.requires n (sym (is n) ∙ c.in-Some.ensures.1) in
+    let here = dropped_to runs member is v next c.loop-row.invariant.dropped in
+    let may = c.requires n (sym (is n) ∙ next.1) in
     let none = still_droppable runs n v (g.X.Host.view c.loop-row.host) here may in
     search rules
 
@@ -25,14 +29,18 @@ loop-row-preserved g c =
     let member : ℕ → Bool = contains c.rows_in-to_drop.result in
     let is : (k : ℕ) → member k ≡ runs k = c.rows_in-to_drop.ensures in
     let n = c.in-Some.row in
+    let next = next_member c.rows_in-to_drop.result _ _ c.into_iter-row-iterator.ensures.into_iter_gives c.iter-row-items.ensures
+    c.loop-row.yielded_by c.in-Some.ensures.steps in
     let v = g.X.Host.view c.args.host.now in
-    let here = dropped_to runs member is v c.in-Some.ensures c.loop-row.invariant.dropped in
-    let running : runs n ≡ true = sym (is n) ∙ c.in-Some.ensures.1 in
+    let here = dropped_to runs member is v next c.loop-row.invariant.dropped in
+    let running : runs n ≡ true = sym (is n) ∙ next.1 in
     record {
       dropped = dropped_one runs n v _ _ (c.requires n running) (sym running) here
-          (simp c.row_key.ensures at c.drop_row.ensures.does.shows);
+          (simp c.row_key.ensures at c.drop_row.ensures.does.shows)
+          ∙ ap (λ m. dropped_below runs (m + 1) v) (sym (top_more 0 c.loop-row.yielded n));
       goes = g.met.X.Host.goes_on c.args.host.now c.loop-row.host c.drop_row.new.self c.loop-row.invariant.goes c.drop_row.ensures.goes;
-      within = runs_within c.args.self.now.table n running;
+      within = subst (λ m. m ≤ (sheet_of c.args.self.now).rows.count) (sym (top_more 0 c.loop-row.yielded n))
+          (runs_within c.args.self.now.table n running);
     }
 
 pub returns-clause-drops : goal.returns-clause-drops
@@ -41,5 +49,7 @@ returns-clause-drops g c =
     let member : ℕ → Bool = contains c.rows_in-to_drop.result in
     let is : (k : ℕ) → member k ≡ runs k = c.rows_in-to_drop.ensures in
     let r = (sheet_of c.args.self.now).rows in
+    let past = no_next_member c.rows_in-to_drop.result _ _ c.into_iter-row-iterator.ensures.into_iter_gives c.iter-row-items.ensures
+    c.loop-row.yielded_by c.in-None.ensures.steps.0 in
     let v = g.X.Host.view c.args.host.now in
-    dropped_all runs member is v (r.count + 1) (omega arith) c.in_default.ensures c.loop-row.invariant.dropped
+    dropped_all runs member is v (r.count + 1) (omega arith) past c.loop-row.invariant.dropped

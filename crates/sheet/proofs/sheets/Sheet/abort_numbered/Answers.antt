@@ -5,7 +5,7 @@ use Rattle.sheet.specs.Calls.{abort_own_checks}
 use Rattle.sheet.specs.SheetOf.{sheet_of}
 use Rattle.sheet.proofs.Clearing.{left_cleared}
 use Rattle.sheet.proofs.Comings.{own_declines, passed_first}
-use Rattle.sheet.proofs.sheets.Sheet.abort.Goals as goal
+use Rattle.sheet.proofs.sheets.Sheet.abort_numbered.Goals as goal
 
 pub returns-in_err-may_abort-clause-comes : goal.returns-in_err-may_abort-clause-comes
 returns-in_err-may_abort-clause-comes g c =

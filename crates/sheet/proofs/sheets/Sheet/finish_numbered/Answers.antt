@@ -6,15 +6,14 @@ use Rattle.sheet.proofs.Comings.{none_stands}
 use Rattle.sheet.specs.SheetOf.{sheet_of}
 use Rattle.sheet.proofs.Graphs.{graph_stays}
 use Rattle.sheet.proofs.Phases.{still_kept}
-use Rattle.sheet.proofs.sheets.Sheet.finish.Goals as goal
+use Rattle.sheet.proofs.sheets.Sheet.finish_numbered.Goals as goal
 
 pub invariant_of-self : goal.invariant_of-self
 invariant_of-self c =
     let x = c.args.self.now in
-    let number = c.args.ticket.number in
-    let passed = simp c.number.ensures at c.in_default.ensures in
+    let number = c.args.ticket in
     record {
       kept = still_kept (sheet_of x) Forward x.kept
-          (λ o _. finish_free (sheet_of x) number o (none_stands (finish_fault (sheet_of x) number) passed));
+          (λ o _. finish_free (sheet_of x) number o (none_stands (finish_fault (sheet_of x) number) c.in_ok-may_finish.ensures));
       holds = graph_stays (sheet_of x) Forward x.graph x.holds;
     }

@@ -4,7 +4,7 @@ use Rattle.values.specs.declared.Phase.TheVariants.{Parked}
 use Rattle.sheet.specs.SheetOf.{sheet_of}
 use Rattle.sheet.proofs.Graphs.{graph_stays}
 use Rattle.sheet.proofs.Phases.{still_kept}
-use Rattle.sheet.proofs.sheets.Sheet.park.Goals as goal
+use Rattle.sheet.proofs.sheets.Sheet.park_numbered.Goals as goal
 
 pub invariant_of-self : goal.invariant_of-self
 invariant_of-self c =

@@ -16,36 +16,33 @@ use Rattle.sheet.specs.Tickets.{undo_own_checks}
 use Rattle.sheet.proofs.Clearing.{left_cleared}
 use Rattle.sheet.proofs.Comings.{own_declines, host_declines, both_accept, passed_first, none_declines, other_rows, put_into}
 use Rattle.sheet.proofs.Graphs.{graph_state, graph_put}
-use Rattle.sheet.proofs.sheets.Sheet.undo.Goals as goal
+use Rattle.sheet.proofs.sheets.Sheet.undo_numbered.Goals as goal
 
 pub returns-in_err-may_undo-clause-comes : goal.returns-in_err-may_undo-clause-comes
 returns-in_err-may_undo-clause-comes g c =
     let s = sheet_of c.args.self.now in
-    let own = undo_own_checks s c.args.ticket.now.number c.args.row in
+    let own = undo_own_checks s c.args.ticket c.args.row in
     let asked = move_checks Standing (g.X.Host.view c.args.host.now) (key_of c.args.row) in
-    let fails = simp c.number.ensures at c.in_err-may_undo.ensures in
     passed_first (memory_check (length c.args.column.now) (length c.args.line.now)) _ c.in_ok-wants_memory.ensures
-    (own_declines own asked fails.checks (search rules) refl refl)
+    (own_declines own asked c.in_err-may_undo.ensures.checks (search rules) refl refl)
 
 pub returns-in_err-undo-clause-comes : goal.returns-in_err-undo-clause-comes
 returns-in_err-undo-clause-comes g c =
     let s = sheet_of c.args.self.now in
-    let own = undo_own_checks s c.args.ticket.now.number c.args.row in
+    let own = undo_own_checks s c.args.ticket c.args.row in
     let asked = move_checks Standing (g.X.Host.view c.args.host.now) (key_of c.args.row) in
-    let passes = simp c.number.ensures at c.in_ok-may_undo.ensures in
     let b = simp c.row_key.ensures at c.in_err-undo.ensures.does in
     passed_first (memory_check (length c.args.column.now) (length c.args.line.now)) _ c.in_ok-wants_memory.ensures
-    (host_declines own asked passes.checks b.answers (search rules) refl b.shows)
+    (host_declines own asked c.in_ok-may_undo.ensures.checks b.answers (search rules) refl b.shows)
 
 pub invariant_of-self : goal.invariant_of-self
 invariant_of-self g c =
     let s = sheet_of c.args.self.now in
     let v = g.X.Host.view c.args.host.now in
-    let t = c.args.ticket.now.number in
+    let t = c.args.ticket in
     let k = c.args.row in
-    let passes = simp c.number.ensures at c.in_ok-may_undo.ensures in
     let b = simp c.row_key.ensures at c.in_ok-undo.ensures.does in
-    let none = none_declines (undo_own_checks s t k) (move_checks Standing v (key_of k)) passes.checks b.answers in
+    let none = none_declines (undo_own_checks s t k) (move_checks Standing v (key_of k)) c.in_ok-may_undo.ensures.checks b.answers in
     let due = undo_due s v t k 257 256 none in
     let is = other_rows c.args.self.now c.set_state.new.self _
     (c.set_state.ensures.rows ∙ put_into s.rows k Due Undone due refl)
@@ -61,18 +58,17 @@ pub returns-clause-comes : goal.returns-clause-comes
 returns-clause-comes g c =
     let s = sheet_of c.args.self.now in
     let v = g.X.Host.view c.args.host.now in
-    let t = c.args.ticket.now.number in
+    let t = c.args.ticket in
     let k = c.args.row in
     let own = undo_own_checks s t k in
     let asked = move_checks Standing v (key_of k) in
-    let passes = simp c.number.ensures at c.in_ok-may_undo.ensures in
     let b = simp c.row_key.ensures at c.in_ok-undo.ensures.does in
-    let none = none_declines own asked passes.checks b.answers in
+    let none = none_declines own asked c.in_ok-may_undo.ensures.checks b.answers in
     let is = other_rows c.args.self.now c.set_state.new.self _
     (c.set_state.ensures.rows ∙ put_into s.rows k Due Undone (undo_due s v t k 257 256 none) refl)
     c.set_state.ensures.rolled in
     passed_first (memory_check (length c.args.column.now) (length c.args.line.now)) _ c.in_ok-wants_memory.ensures
-    (both_accept own asked passes.checks b.answers refl is b.shows)
+    (both_accept own asked c.in_ok-may_undo.ensures.checks b.answers refl is b.shows)
 
 pub returns-in_err-may_undo-clause-column : goal.returns-in_err-may_undo-clause-column
 returns-in_err-may_undo-clause-column g c = left_cleared c.args.column.now (length c.args.line.now) (search rules)

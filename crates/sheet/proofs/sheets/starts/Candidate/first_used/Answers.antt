@@ -1,0 +1,1 @@
+use Rattle.sheet.proofs.sheets.starts.Candidate.first_used.Goals as goal
