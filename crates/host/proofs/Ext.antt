@@ -5,7 +5,7 @@ use Rattle.values.specs.declared.Kind.{Kind}
 use Rattle.values.specs.declared.Fault.{Fault}
 use Rattle.host.specs.Keys.{RowKey}
 use Rattle.host.specs.View.{View}
-use Rattle.host.specs.Calls.{fault_of, done, Makes}
+use Rattle.host.specs.Calls.{fault_of, done, Performs}
 use Rattle.host.specs.declared.calls.Call.{Call}
 
 -- two views are equal if each of the four observations is
@@ -22,7 +22,7 @@ after_in part (Some f) g v u w x p q h = q ∙ ap (λ o. after o u x) p
 -- a call on a part is the same call on the whole, if both decline it alike and do the same where they accept it
 pub part_makes : (part : View → View) (v u : View) (c : Call) → part v ≡ u → fault_of v c ≡ fault_of u c
     → (fault_of u c ≡ None → part (done v c) ≡ done u c) → (r : Result (Unit {0}) Fault) (w : View)
-    → Makes v c r w → Makes u c r (part w)
+    → Performs v c r w → Performs u c r (part w)
 part_makes part v u c q p h r w m = record {
   answers = m.answers ∙ ap (λ f. answer f tt) p;
   shows = ap part m.shows ∙ after_in part (fault_of v c) (fault_of u c) v u (done v c) (done u c) p q h;

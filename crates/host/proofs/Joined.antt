@@ -10,7 +10,7 @@ use Rattle.values.specs.declared.Fault.{Fault}
 use Rattle.host.specs.Keys.{RowKey}
 use Rattle.host.specs.View.{View, is_unknown, move_checks, begin_checks, moved, begun}
 use Rattle.host.specs.Views.{joined, for_first}
-use Rattle.host.specs.Calls.{fault_of, done, Makes}
+use Rattle.host.specs.Calls.{fault_of, done, Performs}
 use Rattle.host.specs.declared.calls.Call.{Call}
 use Rattle.host.specs.declared.calls.Call.TheVariants.{Begin, Commit, Drop, Undo}
 use Rattle.host.proofs.Ext.{view_ext, part_makes}
@@ -85,8 +85,8 @@ module _ (kind : Kind) (a b : View) (open_pair : (a.shut || b.shut) ≡ false) w
   second_done (Undo row) k h = second_moved row k Reversed
 
   module _ (c : Call) (r : Result (Unit {0}) Fault) (w : View) where
-    pub makes_first : for_first kind a b c ≡ true → Makes a c r w → Makes (joined kind a b) c r (joined kind w b)
+    pub makes_first : for_first kind a b c ≡ true → Performs a c r w → Performs (joined kind a b) c r (joined kind w b)
     makes_first k m = part_makes (λ v. joined kind v b) a (joined kind a b) c refl (first_faults c k) (first_done c k) r w m
 
-    pub makes_second : for_first kind a b c ≡ false → Makes b c r w → Makes (joined kind a b) c r (joined kind a w)
+    pub makes_second : for_first kind a b c ≡ false → Performs b c r w → Performs (joined kind a b) c r (joined kind a w)
     makes_second k m = part_makes (joined kind a) b (joined kind a b) c refl (second_faults c k) (second_done c k) r w m

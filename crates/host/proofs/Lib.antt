@@ -2,6 +2,7 @@ pub mod Ext
 pub mod Joined
 pub mod Sorted
 pub mod Passing
+pub mod Made
 pub mod Along
 pub mod Checks
 pub mod Tables

@@ -12,17 +12,15 @@ use Rattle.values.specs.declared.HostState.TheVariants.{Standing, Void, Reversed
 use Rattle.host.specs.Keys.{RowKey}
 use Rattle.host.specs.View.{View, Sound, Fresh, is_unknown, moved, begun, begin_checks}
 use Rattle.host.specs.Known.{Known, KnownRow, known_row, known_by, if_wanted, only, is_kind, is_other, Sorted}
-use Rattle.host.specs.Laws.{Empty}
+use Rattle.host.specs.Known.{HoldsNothingFresh}
+use Rattle.host.specs.Laws.{unknown_row}
 use Rattle.host.specs.Views.{joined, for_first}
 use Rattle.host.specs.Calls.{fault_of, done, after_call}
 use Rattle.host.specs.declared.calls.Call.{Call}
 use Rattle.host.specs.declared.calls.Call.TheVariants.{Begin, Commit, Drop, Undo}
 
 -- a host that knows no row has each where it belongs
-unknown_row : (v : View) → Sound v → Fresh v → (row : RowKey) → known_row (v.state row) (v.entry row) ≡ None
-unknown_row v s f row = let e = s.entries row in let u = f row in grind (arith, nat_tests)
-
-pub sorted_fresh : {X : Type 0} (view : X → View) (holds : X → Known → Type 0) → ((x : X) → Sound (view x)) → Empty view holds
+pub sorted_fresh : {X : Type 0} (view : X → View) (holds : X → Known → Type 0) → ((x : X) → Sound (view x)) → HoldsNothingFresh view holds
     → (x : X) → Fresh (view x) → Sorted view holds x
 sorted_fresh view holds sound empty x fresh =
     subst (holds x) (sym (fun_ext λ row. unknown_row (view x) (sound x) fresh row)) (empty x fresh)

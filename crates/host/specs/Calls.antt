@@ -34,7 +34,7 @@ abbrev pub after_call : View → Call → View
 after_call v c = after (fault_of v c) v (done v c)
 
 -- a call made: its answer, and what the host shows after
-pub record Makes (before : View) (call : Call) (r : Result (Unit {0}) Fault) (shown : View) : Type 0 where
+pub record Performs (before : View) (call : Call) (r : Result (Unit {0}) Fault) (shown : View) : Type 0 where
   pub answers : r ≡ answer (fault_of before call) tt
   pub shows : shown ≡ after_call before call
 

@@ -15,9 +15,9 @@ abbrev pub shown_after : Option Fault → Bool → View → View
 shown_after fault shut v = shut_as (after fault v.shut shut) v
 
 -- what a command leaves: of one that is obeyed the host says what, and one that is declined changes nothing
-abbrev pub Left : {X C : Type 0} → Option Fault → (X → C → X → Type 0) → X → C → X → Type 0
-Left None leaves x c y = leaves x c y
-Left (Some f) leaves x c y = y ≡ x
+abbrev pub Controlled : {X C : Type 0} → Option Fault → (X → C → X → Type 0) → X → C → X → Type 0
+Controlled None leaves x c y = leaves x c y
+Controlled (Some f) leaves x c y = y ≡ x
 
 -- what a command leaves of a host that none shuts or opens
 abbrev pub LeavesAll : {X C : Type 0} → X → C → X → Type 0

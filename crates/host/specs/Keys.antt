@@ -28,6 +28,6 @@ place_of row = row
 abbrev pub number_of : RowKey → ℕ
 number_of row = row
 
--- which keys are those of a sheet's rows: all keys that a host knows, since a host serves one sheet
-abbrev pub is_of_sheet : RowKey → Bool
-is_of_sheet row = is_row row
+-- which keys are those of the rows of a sheet with this serial: all keys that a host knows, since a host serves one sheet
+abbrev pub is_of_sheet : ℕ → RowKey → Bool
+is_of_sheet serial row = is_row row

@@ -5,7 +5,7 @@ use Rattle.values.specs.declared.Entry.{Entry}
 use Rattle.values.specs.declared.HostState.{HostState}
 use Rattle.values.specs.declared.Kind.{Kind}
 use Rattle.host.specs.Keys.{RowKey}
-use Rattle.host.specs.View.{View}
+use Rattle.host.specs.View.{View, Fresh}
 
 -- a row that is known: its state and its entry
 pub record KnownRow : Type 0 where
@@ -50,3 +50,21 @@ Sorted view holds x = holds x (known_by (view x))
 -- a host without parts has all that it shows in one place
 abbrev pub Alone : {X : Type 0} → (X → View) → X → Known → Type 0
 Alone view x known = known_by (view x) ≡ known
+
+-- ── what holds of every host ──
+
+-- what it holds is what it shows
+abbrev pub HoldsWhatItShows : {X : Type 0} → (X → View) → (X → Known → Type 0) → Type 0
+HoldsWhatItShows {X} view holds = (x : X) (known : Known) → holds x known → known_by (view x) ≡ known
+
+-- a fresh one has no row anywhere
+abbrev pub HoldsNothingFresh : {X : Type 0} → (X → View) → (X → Known → Type 0) → Type 0
+HoldsNothingFresh {X} view holds = (x : X) → Fresh (view x) → holds x nothing_known
+
+-- rows stay where they belong, whatever calls are made
+abbrev pub StaysSorted : {X : Type 0} → (X → View) → (X → Known → Type 0) → (X → X → Type 0) → Type 0
+StaysSorted {X} view holds goes = (x y : X) → goes x y → Sorted view holds x → Sorted view holds y
+
+-- and a command that is obeyed moves no row
+abbrev pub MovesNoRow : {X C : Type 0} → (X → Known → Type 0) → (X → C → X → Type 0) → Type 0
+MovesNoRow {X} {C} holds leaves = (x : X) (c : C) (y : X) → leaves x c y → (known : Known) → holds x known → holds y known

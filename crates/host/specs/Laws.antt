@@ -1,14 +1,18 @@
--- The lemmas that the laws of switch and pair as hosts cite. Assumes nothing.
-use Rattle.std.specs.Prelude.{◌≡◌, cond, not, is_some, None, Option, refl}
-use Rattle.std.proofs.Common.{◌∙◌, sym, subst, arith}
+-- The lemmas that the laws of hosts cite: of a host without parts, of a switch, of a pair, and of a book. Assumes nothing.
+use Rattle.std.specs.Prelude.{◌≡◌, ℕ, ◌+◌, ◌-◌, ◌≤◌, Bool, true, false, cond, not, List, [], ◌∷◌, length, take, drop, is_some, Some, None, Option, refl}
+use Rattle.std.proofs.Common.{◌∙◌, sym, ap, subst, arith}
 use Rattle.std.proofs.lemmas.Bool.Decides.{nat_tests}
+use Rattle.std.proofs.lemmas.List.{drop-drop, length-take}
+use Rattle.std.proofs.Math.Seq.{take-length}
 use mathlib.Core.Path.{fun_ext}
 use Rattle.values.specs.declared.Entry.{Entry}
 use Rattle.values.specs.declared.HostState.{HostState}
 use Rattle.values.specs.declared.Kind.{Kind}
 use Rattle.host.specs.Keys.{RowKey}
+use Rattle.host.specs.Table.{IsPrefix, RestFrom}
 use Rattle.host.specs.View.{View, Sound, Fresh, is_unknown}
-use Rattle.host.specs.Known.{Known, KnownRow, known_by, known_row, if_wanted, only, is_kind, is_other, nothing_known, Sorted, Alone}
+use Rattle.host.specs.Known.{Known, KnownRow, known_by, known_row, if_wanted, only, is_kind, is_other, nothing_known, Alone}
+use Rattle.host.specs.Known.{HoldsWhatItShows, HoldsNothingFresh, StaysSorted, MovesNoRow}
 use Rattle.host.specs.Views.{joined, switch_view, pair_view, SwitchHolds, PairHolds, SwitchGoes, PairGoes}
 use Rattle.host.specs.Commands.{LeavesAll, SwitchLeaves, PairLeaves}
 use Rattle.host.specs.declared.switch.Switch.{Switch}
@@ -16,34 +20,17 @@ use Rattle.host.specs.declared.switch.SwitchCommand.TheVariants.{On, Off, Below}
 use Rattle.host.specs.declared.pair.Pair.{Pair}
 use Rattle.host.specs.declared.pair.PairCommand.TheVariants.{First, Second}
 
--- ── what a host holds ──
-
--- of all hosts: what it holds is what it shows
-abbrev pub Whole : {X : Type 0} → (X → View) → (X → Known → Type 0) → Type 0
-Whole {X} view holds = (x : X) (known : Known) → holds x known → known_by (view x) ≡ known
-
--- one that knows no row has none anywhere
-abbrev pub Empty : {X : Type 0} → (X → View) → (X → Known → Type 0) → Type 0
-Empty {X} view holds = (x : X) → Fresh (view x) → holds x nothing_known
-
--- rows stay where they belong, whatever calls are made
-abbrev pub StaysSorted : {X : Type 0} → (X → View) → (X → Known → Type 0) → (X → X → Type 0) → Type 0
-StaysSorted {X} view holds goes = (x y : X) → goes x y → Sorted view holds x → Sorted view holds y
-
--- and a command moves no row
-abbrev pub MovesNoRow : {X C : Type 0} → (X → Known → Type 0) → (X → C → X → Type 0) → Type 0
-MovesNoRow {X} {C} holds leaves = (x : X) (c : C) (y : X) → leaves x c y → (known : Known) → holds x known → holds y known
-
 -- ── a host without parts, which no command changes ──
 
-unknown_row : (v : View) → Sound v → Fresh v → (row : RowKey) → known_row (v.state row) (v.entry row) ≡ None
+-- a host that knows no row
+pub unknown_row : (v : View) → Sound v → Fresh v → (row : RowKey) → known_row (v.state row) (v.entry row) ≡ None
 unknown_row v s f row = let e = s.entries row in let u = f row in grind (arith, nat_tests)
 
 module _ {X : Type 0} (view : X → View) where
-  pub alone_whole : Whole view (Alone view)
+  pub alone_whole : HoldsWhatItShows view (Alone view)
   alone_whole x known h = h
 
-  pub alone_empty : ((x : X) → Sound (view x)) → Empty view (Alone view)
+  pub alone_empty : ((x : X) → Sound (view x)) → HoldsNothingFresh view (Alone view)
   alone_empty sound x fresh = fun_ext λ row. unknown_row (view x) (sound x) fresh row
 
   pub alone_sorted : (goes : X → X → Type 0) → StaysSorted view (Alone view) goes
@@ -66,13 +53,16 @@ module _ {X : Type 0} {goes : X → X → Type 0} where
     off = λ off. q.off (p.on ∙ off) ∙ p.off off;
   }
 
-module _ {X Y : Type 0} {v : X → View} {f : X → Known → Type 0} {g : X → X → Type 0}
-    {w : Y → View} {s : Y → Known → Type 0} {h : Y → Y → Type 0} where
-  pub pair_stays : ((x : X) → g x x) → ((y : Y) → h y y) → (p : Pair X Y) → PairGoes v f g w s h p p
+module _ {X Y : Type 0} {first_view : X → View} {first_holds : X → Known → Type 0} {first_goes : X → X → Type 0}
+    {second_view : Y → View} {second_holds : Y → Known → Type 0} {second_goes : Y → Y → Type 0} where
+  pub pair_stays : ((x : X) → first_goes x x) → ((y : Y) → second_goes y y) → (p : Pair X Y)
+      → PairGoes first_view first_holds first_goes second_view second_holds second_goes p p
   pair_stays first second p = record { kind = refl; first = first p.first; second = second p.second; sorted = λ s. s }
 
-  pub pair_goes_on : ((x y z : X) → g x y → g y z → g x z) → ((x y z : Y) → h x y → h y z → h x z) → (p q r : Pair X Y)
-      → PairGoes v f g w s h p q → PairGoes v f g w s h q r → PairGoes v f g w s h p r
+  pub pair_goes_on : ((x y z : X) → first_goes x y → first_goes y z → first_goes x z)
+      → ((x y z : Y) → second_goes x y → second_goes y z → second_goes x z) → (p q r : Pair X Y)
+      → PairGoes first_view first_holds first_goes second_view second_holds second_goes p q → PairGoes first_view first_holds first_goes second_view second_holds second_goes q r
+      → PairGoes first_view first_holds first_goes second_view second_holds second_goes p r
   pair_goes_on first second p q r a b = record {
     kind = b.kind ∙ a.kind;
     first = first p.first q.first r.first a.first b.first;
@@ -83,10 +73,10 @@ module _ {X Y : Type 0} {v : X → View} {f : X → Known → Type 0} {g : X →
 -- ── a switch ──
 
 module _ {X : Type 0} (view : X → View) (holds : X → Known → Type 0) where
-  pub switch_whole : Whole view holds → Whole (switch_view view) (SwitchHolds holds)
+  pub switch_whole : HoldsWhatItShows view holds → HoldsWhatItShows (switch_view view) (SwitchHolds holds)
   switch_whole whole s known h = whole s.inner known h
 
-  pub switch_empty : Empty view holds → Empty (switch_view view) (SwitchHolds holds)
+  pub switch_empty : HoldsNothingFresh view holds → HoldsNothingFresh (switch_view view) (SwitchHolds holds)
   switch_empty empty s fresh = empty s.inner fresh
 
   pub switch_sorted : {goes : X → X → Type 0} → StaysSorted view holds goes
@@ -118,26 +108,58 @@ fresh_first kind a b fresh row = let f = fresh row in grind (arith, nat_tests)
 pub fresh_second : (kind : Kind) (a b : View) → Fresh (joined kind a b) → Fresh b
 fresh_second kind a b fresh row = let f = fresh row in grind (arith, nat_tests)
 
-module _ {X Y : Type 0} (v : X → View) (f : X → Known → Type 0) (w : Y → View) (s : Y → Known → Type 0) where
-  pub pair_whole : ((x : X) → Sound (v x)) → Whole v f → Whole w s → Whole (pair_view v w) (PairHolds f s)
+module _ {X Y : Type 0} (first_view : X → View) (first_holds : X → Known → Type 0)
+    (second_view : Y → View) (second_holds : Y → Known → Type 0) where
+  pub pair_whole : ((x : X) → Sound (first_view x)) → HoldsWhatItShows first_view first_holds → HoldsWhatItShows second_view second_holds
+      → HoldsWhatItShows (pair_view first_view second_view) (PairHolds first_holds second_holds)
   pair_whole sound first second p known h =
-      joined_whole p.kind (v p.first) (w p.second) known (sound p.first) (first p.first _ h.0) (second p.second _ h.1)
+      joined_whole p.kind (first_view p.first) (second_view p.second) known (sound p.first) (first p.first _ h.0) (second p.second _ h.1)
 
-  pub pair_empty : Empty v f → Empty w s → Empty (pair_view v w) (PairHolds f s)
-  pair_empty first second p fresh =
-      (first p.first (fresh_first p.kind (v p.first) (w p.second) fresh), second p.second (fresh_second p.kind (v p.first) (w p.second) fresh))
-
-  pub pair_sorted : (g : X → X → Type 0) (h : Y → Y → Type 0)
-      → StaysSorted (pair_view v w) (PairHolds f s) (PairGoes v f g w s h)
-  pair_sorted g h p q goes = goes.sorted
-
-module _ {X C Y D : Type 0} (f : X → Known → Type 0) (first : X → C → X → Type 0) (s : Y → Known → Type 0) (second : Y → D → Y → Type 0) where
-  pub pair_moves_no_row : MovesNoRow f first → MovesNoRow s second → MovesNoRow (PairHolds f s) (PairLeaves first second)
-  pair_moves_no_row m n p (First c) q l known h = (
-    subst (λ k. f q.first (only (is_kind k) known)) (sym l.0) (m p.first c q.first l.1 _ h.0),
-    subst (λ k. s q.second (only (is_other k) known)) (sym l.0) (subst (λ y. s y (only (is_other p.kind) known)) (sym l.2) h.1),
+  pub pair_empty : HoldsNothingFresh first_view first_holds → HoldsNothingFresh second_view second_holds
+      → HoldsNothingFresh (pair_view first_view second_view) (PairHolds first_holds second_holds)
+  pair_empty first second p fresh = (
+    first p.first (fresh_first p.kind (first_view p.first) (second_view p.second) fresh),
+    second p.second (fresh_second p.kind (first_view p.first) (second_view p.second) fresh),
   )
-  pair_moves_no_row m n p (Second c) q l known h = (
-    subst (λ k. f q.first (only (is_kind k) known)) (sym l.0) (subst (λ x. f x (only (is_kind p.kind) known)) (sym l.1) h.0),
-    subst (λ k. s q.second (only (is_other k) known)) (sym l.0) (n p.second c q.second l.2 _ h.1),
+
+  pub pair_sorted : (first_goes : X → X → Type 0) (second_goes : Y → Y → Type 0)
+      → StaysSorted (pair_view first_view second_view) (PairHolds first_holds second_holds)
+      (PairGoes first_view first_holds first_goes second_view second_holds second_goes)
+  pair_sorted first_goes second_goes p q goes = goes.sorted
+
+module _ {X C Y D : Type 0} (first_holds : X → Known → Type 0) (first_leaves : X → C → X → Type 0)
+    (second_holds : Y → Known → Type 0) (second_leaves : Y → D → Y → Type 0) where
+  pub pair_moves_no_row : MovesNoRow first_holds first_leaves → MovesNoRow second_holds second_leaves
+      → MovesNoRow (PairHolds first_holds second_holds) (PairLeaves first_leaves second_leaves)
+  pair_moves_no_row first second p (First c) q left known h = (
+    subst (λ k. first_holds q.first (only (is_kind k) known)) (sym left.0) (first p.first c q.first left.1 _ h.0),
+    subst (λ k. second_holds q.second (only (is_other k) known)) (sym left.0)
+        (subst (λ y. second_holds y (only (is_other p.kind) known)) (sym left.2) h.1),
   )
+  pair_moves_no_row first second p (Second c) q left known h = (
+    subst (λ k. first_holds q.first (only (is_kind k) known)) (sym left.0)
+        (subst (λ x. first_holds x (only (is_kind p.kind) known)) (sym left.1) h.0),
+    subst (λ k. second_holds q.second (only (is_other k) known)) (sym left.0) (second p.second c q.second left.2 _ h.1),
+  )
+
+-- ── the table of a book ──
+
+-- items at their places, after none of the calls and after some and others
+pub prefix_stays : {X : Type 0} (xs : List X) → IsPrefix xs xs
+prefix_stays xs = take-length xs
+
+pub prefix_goes_on : {X : Type 0} (xs ys zs : List X) → IsPrefix xs ys → IsPrefix ys zs → IsPrefix xs zs
+prefix_goes_on [] ys zs p q = grind arith
+prefix_goes_on (x ∷ xs) [] zs p q = grind arith
+prefix_goes_on (x ∷ xs) (y ∷ ys) [] p q = grind arith
+prefix_goes_on (x ∷ xs) (y ∷ ys) (z ∷ zs) p q = let ih = prefix_goes_on xs ys zs in grind arith
+
+pub prefix_longer : {X : Type 0} (xs ys : List X) → IsPrefix xs ys → length xs ≤ length ys
+prefix_longer xs ys p = let size = length-take (length xs) ys in let same = ap length p in omega (arith, size, same)
+
+-- the rest of the table, from which as many items were taken
+pub rest_stays : {X : Type 0} (n : ℕ) (rest : List X) → RestFrom n n rest rest
+rest_stays n rest = let none : n - n ≡ 0 = omega arith in sym (ap (λ k. drop k rest) none)
+
+pub rest_goes_on : {X : Type 0} (a b c : ℕ) (r s t : List X) → a ≤ b → b ≤ c → RestFrom a b r s → RestFrom b c s t → RestFrom a c r t
+rest_goes_on a b c r s t p q u w = w ∙ ap (drop (c - b)) u ∙ drop-drop (c - b) (b - a) r ∙ ap (λ n. drop n r) (omega (arith, p, q))

@@ -3,6 +3,7 @@ pub mod View
 pub mod Known
 pub mod Calls
 pub mod Views
+pub mod Made
 pub mod Commands
 pub mod Laws
 pub mod Later

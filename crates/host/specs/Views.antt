@@ -3,7 +3,7 @@ use Rattle.std.specs.Prelude.{◌≡◌, Bool, true, false, cond, not, ◌&&◌,
 use Rattle.values.specs.Numbers.{same_kind}
 use Rattle.values.specs.declared.Fault.{Fault}
 use Rattle.values.specs.declared.Kind.{Kind}
-use Rattle.host.specs.Calls.{Makes}
+use Rattle.host.specs.Calls.{Performs}
 use Rattle.host.specs.Known.{Known, only, is_kind, is_other, Sorted}
 use Rattle.host.specs.View.{View, is_unknown, shut_as}
 use Rattle.host.specs.declared.calls.Call.{Call}
@@ -53,7 +53,7 @@ PairHolds first second p known =
 -- a call made at a host: its answer, what the host shows after it, and what it made of the host in the host's own terms
 pub record Called {X : Type 0} (view : X → View) (makes : X → Call → Result (Unit {0}) Fault → X → Type 0)
     (x : X) (c : Call) (r : Result (Unit {0}) Fault) (y : X) : Type 0 where
-  pub shows : Makes (view x) c r (view y)
+  pub shows : Performs (view x) c r (view y)
   pub made : makes x c r y
 
 -- made there, or else the host is as it was

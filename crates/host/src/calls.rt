@@ -1,7 +1,8 @@
 // Calls as values, and a list of them made on any host.
 ghost use Rattle.std.specs.Prelude.{◌≡◌};
-ghost use Rattle.host.specs.Calls.{row_of, Makes, after_calls, accepted};
+ghost use Rattle.host.specs.Calls.{row_of, Performs, after_calls, accepted};
 ghost use Rattle.host.specs.Later.{Later};
+ghost use Rattle.host.specs.Made.{Made};
 
 use crate::hosts::Host;
 use crate::keys::RowKey;
@@ -19,7 +20,7 @@ pub enum Call {
 impl Call {
     /// Makes the call.
     pub fn make<X: Host>(self, host: &mut X) -> Result<(), Fault>
-        ensures makes { Makes (X.Host.view host.old) self result (X.Host.view host.new) }
+        ensures does { Performs (X.Host.view host.old) self result (X.Host.view host.new) }
         ensures made { X.Host.makes host.old self result host.new }
         ensures goes { X.Host.goes host.old host.new }
     {
@@ -46,6 +47,7 @@ pub fn make_all<X: Host>(host: &mut X, calls: &[Call]) -> usize
     ensures answers { result ≡ accepted (X.Host.view host.old) calls.now }
     ensures shows { X.Host.view host.new ≡ after_calls (X.Host.view host.old) calls.now }
     ensures later { Later (X.Host.view host.old) (X.Host.view host.new) }
+    ensures made { Made X.Host.view X.Host.makes host.old calls.now host.new }
     ensures goes { X.Host.goes host.old host.new }
 {
     let mut count = 0;

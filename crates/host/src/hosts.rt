@@ -3,9 +3,8 @@ ghost use Rattle.std.specs.Prelude.{◌≡◌, Bool, Option, Result};
 ghost use Rattle.values.specs.Checks.{answer, first_fault};
 ghost use Rattle.values.specs.declared.Fault.{Fault};
 ghost use Rattle.values.specs.declared.HostState.TheVariants.{Open, Standing, Void, Reversed};
-ghost use Rattle.host.specs.Commands.{shown_after, Left};
-ghost use Rattle.host.specs.Known.{Known};
-ghost use Rattle.host.specs.Laws.{Whole, Empty, StaysSorted, MovesNoRow};
+ghost use Rattle.host.specs.Commands.{shown_after, Controlled};
+ghost use Rattle.host.specs.Known.{Known, HoldsWhatItShows, HoldsNothingFresh, StaysSorted, MovesNoRow};
 ghost use Rattle.host.specs.declared.calls.Call.{Call};
 ghost use Rattle.host.specs.declared.calls.Call.TheVariants.{Begin, Commit, Drop, Undo};
 ghost use Rattle.host.specs.View.{View, Sound, Begins, Moves, begin_checks, move_checks};
@@ -98,9 +97,9 @@ pub trait Host {
 
     ghost goes_on: { (h i j : Self) → goes h i → goes i j → goes h j };
 
-    ghost whole: { Whole view holds };
+    ghost whole: { HoldsWhatItShows view holds };
 
-    ghost empty: { Empty view holds };
+    ghost empty: { HoldsNothingFresh view holds };
 
     ghost stays_sorted: { StaysSorted view holds goes };
 }
@@ -118,12 +117,13 @@ pub trait Controls: Host {
     // what a command that is obeyed leaves of the host before it in the host after it
     ghost leaves: { Self → Self.Command → Self → Type 0 };
 
-    /// Obeys a command, which changes nothing but whether the host is shut, and says whether it is shut now; or declines it.
+    /// Obeys a command, which changes nothing that is shown but whether the host is shut, and says whether it is shut now;
+    /// or declines it, and changes nothing at all.
     fn control(&mut self, command: &Self::Command) -> Result<bool, Fault>
         ensures answers { result ≡ answer (declines self.old command.now) (shuts self.old command.now) }
         ensures shows { Self.Host.view self.new
             ≡ shown_after (declines self.old command.now) (shuts self.old command.now) (Self.Host.view self.old) }
-        ensures left { Left (declines self.old command.now) leaves self.old command.now self.new };
+        ensures left { Controlled (declines self.old command.now) leaves self.old command.now self.new };
 
     ghost moves_no_row: { MovesNoRow Self.Host.holds leaves };
 }

@@ -1,7 +1,7 @@
 // Two hosts as one: rows of one kind go to the first, all others to the second.
 ghost use Rattle.std.specs.Prelude.{◌≡◌};
 ghost use Rattle.values.specs.Numbers.{same_kind};
-ghost use Rattle.host.specs.Calls.{Makes};
+ghost use Rattle.host.specs.Calls.{Performs};
 ghost use Rattle.host.specs.Commands.{pair_declines, pair_shuts, PairLeaves};
 ghost use Rattle.host.specs.Laws.{pair_stays, pair_goes_on, pair_whole, pair_empty, pair_sorted, pair_moves_no_row};
 ghost use Rattle.host.specs.Views.{joined, pair_view, PairHolds, PairGoes, PairMakes, for_first};
@@ -151,7 +151,7 @@ impl<X: Host, Y: Host> Pair<X, Y> {
 
     // Makes a call at the host that it is for, unless the pair is shut.
     fn pass(&mut self, call: Call) -> Result<(), Fault>
-        ensures makes { Makes (pair_view X.Host.view Y.Host.view self.old) call result (pair_view X.Host.view Y.Host.view self.new) }
+        ensures does { Performs (pair_view X.Host.view Y.Host.view self.old) call result (pair_view X.Host.view Y.Host.view self.new) }
         ensures made { PairMakes X.Host.view X.Host.makes Y.Host.view Y.Host.makes self.old call result self.new }
         ensures goes { PairGoes X.Host.view X.Host.holds X.Host.goes Y.Host.view Y.Host.holds Y.Host.goes self.old self.new }
     {

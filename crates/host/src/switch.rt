@@ -1,6 +1,6 @@
 // A host with a switch: while it is off, the host is shut.
 ghost use Rattle.std.specs.Prelude.{◌≡◌, true};
-ghost use Rattle.host.specs.Calls.{Makes};
+ghost use Rattle.host.specs.Calls.{Performs};
 ghost use Rattle.host.specs.Commands.{switch_declines, switch_shuts, SwitchLeaves};
 ghost use Rattle.host.specs.Laws.{switch_stays, switch_goes_on, switch_whole, switch_empty, switch_sorted, switch_moves_no_row};
 ghost use Rattle.host.specs.Views.{switch_view, SwitchHolds, SwitchGoes, SwitchMakes};
@@ -132,7 +132,7 @@ impl<X: Host> Switch<X> {
 
     // Makes a call at the host below, unless the switch is off.
     fn pass(&mut self, call: Call) -> Result<(), Fault>
-        ensures makes { Makes (switch_view X.Host.view self.old) call result (switch_view X.Host.view self.new) }
+        ensures does { Performs (switch_view X.Host.view self.old) call result (switch_view X.Host.view self.new) }
         ensures made { SwitchMakes X.Host.view X.Host.makes self.old call result self.new }
         ensures goes { SwitchGoes X.Host.goes self.old self.new }
     {

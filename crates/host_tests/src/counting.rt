@@ -1,6 +1,6 @@
 // A host that keeps more than it shows: it counts the calls that it declines.
 ghost use Rattle.std.specs.Prelude.{◌≡◌};
-ghost use Rattle.host.specs.Calls.{Makes};
+ghost use Rattle.host.specs.Calls.{Performs};
 ghost use Rattle.host_tests.specs.Counting.{counting_view, CountingHolds, CountingMakes, CountingGoes, counting_stays, counting_goes_on};
 ghost use Rattle.std.proofs.Common.{rules};
 
@@ -31,7 +31,7 @@ impl<X: Host> Counting<X> {
     }
 
     fn pass(&mut self, call: Call) -> Result<(), Fault>
-        ensures makes { Makes (counting_view X.Host.view self.old) call result (counting_view X.Host.view self.new) }
+        ensures does { Performs (counting_view X.Host.view self.old) call result (counting_view X.Host.view self.new) }
         ensures made { CountingMakes X.Host.makes self.old call result self.new }
         ensures goes { CountingGoes X.Host.goes self.old self.new }
     {

@@ -1,8 +1,8 @@
 -- A ledger: its lines, the rest of its table, what it shows, and what its calls write. Assumes nothing.
-use Rattle.std.specs.Prelude.{◌≡◌, ℕ, ◌-◌, ◌/◌, min, List, [], ◌∷◌, ◌++◌, length, take, drop, Ok, Err, Result}
+use Rattle.std.specs.Prelude.{◌≡◌, ℕ, ◌-◌, ◌/◌, min, List, [], ◌∷◌, ◌++◌, length, drop, Ok, Err, Result}
 use Rattle.values.specs.declared.Fault.{Fault}
 use Rattle.host.specs.Keys.{RowKey}
-use Rattle.host.specs.Table.{capacity_of}
+use Rattle.host.specs.Table.{capacity_of, IsPrefix, RestFrom}
 use Rattle.host.specs.View.{View}
 use Rattle.host.specs.declared.calls.Call.{Call}
 use Rattle.host.specs.declared.calls.Call.TheVariants.{Begin, Commit, Drop, Undo}
@@ -48,6 +48,7 @@ LedgerMakes b (Commit row) (Ok u) later = Turned Post b later row
 LedgerMakes b (Drop row) (Ok u) later = Turned Release b later row
 LedgerMakes b (Undo row) (Ok u) later = Turned Contra b later row
 
--- what calls can make of a ledger: the old lines are a prefix of the new ones
+-- what calls can make of a ledger: the old lines are a prefix of the new ones, which stand in place of the first unused ones
 pub record LedgerGoes (before later : Ledger) : Type 0 where
-  pub lines : take (length (lines_of before)) (lines_of later) ≡ lines_of before
+  pub lines : IsPrefix (lines_of before) (lines_of later)
+  pub rest : RestFrom (length (lines_of before)) (length (lines_of later)) (rest_of before) (rest_of later)

@@ -1,12 +1,13 @@
 -- The lemmas that the laws of the ledger as a host cite: what it shows is sound, and its lines after none or some calls.
 -- Assumes nothing.
-use Rattle.std.specs.Prelude.{◌≡◌, false, List, [], ◌∷◌, not, is_some, Option, length, take}
+use Rattle.std.specs.Prelude.{◌≡◌, false, not, is_some, Option, length}
 use Rattle.std.proofs.Common.{arith}
 use Rattle.values.specs.declared.HostState.TheVariants.{Unknown}
+use Rattle.host.specs.Laws.{prefix_stays, prefix_goes_on, prefix_longer, rest_stays, rest_goes_on}
 use Rattle.host.specs.View.{Sound, is_unknown}
 use Rattle.ledger.specs.declared.lines.Line.{Line}
 use Rattle.ledger.specs.declared.book.Ledger.{Ledger}
-use Rattle.ledger.specs.Book.{LedgerGoes, ledger_view, lines_of}
+use Rattle.ledger.specs.Book.{LedgerGoes, ledger_view, lines_of, rest_of}
 use Rattle.ledger.specs.Lines.{last_of, state_by, entry_by}
 
 no_line : (o : Option Line) → is_some o ≡ false → state_by o ≡ Unknown
@@ -21,18 +22,12 @@ ledger_sound b = record {
   entries = λ row. known_line (last_of (lines_of b) row);
 }
 
-stays_in : (xs : List Line) → take (length xs) xs ≡ xs
-stays_in [] = grind arith
-stays_in (x ∷ xs) = let ih = stays_in xs in grind arith
-
-goes_on_in : (xs ys zs : List Line) → take (length xs) ys ≡ xs → take (length ys) zs ≡ ys → take (length xs) zs ≡ xs
-goes_on_in [] ys zs p q = grind arith
-goes_on_in (x ∷ xs) [] zs p q = grind arith
-goes_on_in (x ∷ xs) (y ∷ ys) [] p q = grind arith
-goes_on_in (x ∷ xs) (y ∷ ys) (z ∷ zs) p q = let ih = goes_on_in xs ys zs in grind arith
-
 pub ledger_stays : (b : Ledger) → LedgerGoes b b
-ledger_stays b = record { lines = stays_in (lines_of b) }
+ledger_stays b = record { lines = prefix_stays (lines_of b); rest = rest_stays (length (lines_of b)) (rest_of b) }
 
 pub ledger_goes_on : (a b c : Ledger) → LedgerGoes a b → LedgerGoes b c → LedgerGoes a c
-ledger_goes_on a b c p q = record { lines = goes_on_in (lines_of a) (lines_of b) (lines_of c) p.lines q.lines }
+ledger_goes_on a b c p q = record {
+  lines = prefix_goes_on (lines_of a) (lines_of b) (lines_of c) p.lines q.lines;
+  rest = rest_goes_on (length (lines_of a)) (length (lines_of b)) (length (lines_of c)) (rest_of a) (rest_of b) (rest_of c)
+      (prefix_longer (lines_of a) (lines_of b) p.lines) (prefix_longer (lines_of b) (lines_of c) q.lines) p.rest q.rest;
+}

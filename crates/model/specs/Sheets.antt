@@ -111,4 +111,4 @@ row_known s k = known_row (host_state_of (s.rows.state k)) (entry_of (s.rows.sta
 
 -- under the keys of its rows a sheet's rows, and under all other keys what was known before
 abbrev pub with_rows_known : Sheet → Known → Known
-with_rows_known s before key = cond (is_of_sheet key) (row_known s (number_of key)) (before key)
+with_rows_known s before key = cond (is_of_sheet s.serial key) (row_known s (number_of key)) (before key)

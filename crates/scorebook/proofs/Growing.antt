@@ -1,16 +1,19 @@
 -- Records stay where they are by one call. Assumes nothing.
-use Rattle.std.specs.Prelude.{◌≡◌, List, [], ◌∷◌, length, take, map}
-use Rattle.std.proofs.Common.{arith}
+use Rattle.std.proofs.Common.{◌≡◌, ◌+◌, ◌-◌, List, [], ◌∷◌, ◌++◌, length, map, drop, ap, ◌∙◌, arith}
+use Rattle.std.proofs.lemmas.List.{length_push, map-append}
 use Rattle.std.proofs.lemmas.Bool.Decides.{nat_tests}
 use Rattle.values.specs.declared.HostState.{HostState}
 use Rattle.host.specs.Keys.{RowKey}
+use Rattle.host.specs.Laws.{prefix_stays}
+use Rattle.host.specs.Table.{IsPrefix}
 use Rattle.scorebook.specs.declared.records.Record.{Record}
-use Rattle.scorebook.specs.Records.{named, turned}
+use Rattle.scorebook.specs.Records.{without_state, turned}
 
-pub turned_named : (xs : List Record) (row : RowKey) (to : HostState) → take (length xs) (map named (turned xs row to)) ≡ map named xs
-turned_named [] row to = grind arith
-turned_named (x ∷ xs) row to = let ih = turned_named xs row to in let same = all_named xs in grind (arith, nat_tests)
-  where
-    all_named : (xs : List Record) → take (length xs) (map named xs) ≡ map named xs
-    all_named [] = grind arith
-    all_named (x ∷ xs) = let ih = all_named xs in grind arith
+-- a record in another state is the same but for it
+pub turned_same : (xs : List Record) (row : RowKey) (to : HostState) → map without_state (turned xs row to) ≡ map without_state xs
+turned_same [] row to = grind arith
+turned_same (x ∷ xs) row to = let ih = turned_same xs row to in grind (arith, nat_tests)
+
+pub turned_length : (xs : List Record) (row : RowKey) (to : HostState) → length (turned xs row to) ≡ length xs
+turned_length [] row to = grind arith
+turned_length (x ∷ xs) row to = let ih = turned_length xs row to in grind (arith, nat_tests)

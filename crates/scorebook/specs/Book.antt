@@ -1,17 +1,17 @@
 -- A score book: its records in use, the rest of its table, what it shows, and what its calls do. Assumes nothing.
-use Rattle.std.specs.Prelude.{◌≡◌, ℕ, ◌-◌, min, List, [], ◌∷◌, ◌++◌, length, drop, take, map, Ok, Err, Result}
+use Rattle.std.specs.Prelude.{◌≡◌, ℕ, ◌-◌, min, List, [], ◌∷◌, ◌++◌, length, drop, map, Ok, Err, Result}
 use Rattle.values.specs.declared.Entry.{Entry}
 use Rattle.values.specs.declared.Fault.{Fault}
 use Rattle.values.specs.declared.HostState.{HostState}
 use Rattle.values.specs.declared.HostState.TheVariants.{Standing, Void, Reversed}
 use Rattle.host.specs.Keys.{RowKey, rows_most}
-use Rattle.host.specs.Table.{capacity_of}
+use Rattle.host.specs.Table.{capacity_of, IsPrefix, RestFrom}
 use Rattle.host.specs.View.{View}
 use Rattle.host.specs.declared.calls.Call.{Call}
 use Rattle.host.specs.declared.calls.Call.TheVariants.{Begin, Commit, Drop, Undo}
 use Rattle.scorebook.specs.declared.records.Record.{Record}
 use Rattle.scorebook.specs.declared.book.ScoreBook.{ScoreBook}
-use Rattle.scorebook.specs.Records.{booked, turned, opened, named}
+use Rattle.scorebook.specs.Records.{booked, turned, opened, without_state}
 
 -- the records in use, in the order of their beginning
 abbrev pub records_of : ScoreBook → List Record
@@ -46,6 +46,8 @@ BookMakes b (Commit row) (Ok u) later = Turned Standing b later row
 BookMakes b (Drop row) (Ok u) later = Turned Void b later row
 BookMakes b (Undo row) (Ok u) later = Turned Reversed b later row
 
--- what calls can make of a book: each record stays at its place, in what state ever, and others may come after
+-- what calls can make of a book: each record stays at its place, in what state ever, and others come after them, in place of the first
+-- unused ones
 pub record BookGoes (before later : ScoreBook) : Type 0 where
-  pub records : take (length (records_of before)) (map named (records_of later)) ≡ map named (records_of before)
+  pub records : IsPrefix (map without_state (records_of before)) (map without_state (records_of later))
+  pub rest : RestFrom (length (records_of before)) (length (records_of later)) (rest_of before) (rest_of later)

@@ -26,9 +26,9 @@ abbrev pub turned : List Record → RowKey → HostState → List Record
 turned [] row to = []
 turned (r ∷ rs) row to = cond (same_row r.row row) (with_state to r ∷ rs) (r ∷ turned rs row to)
 
--- what of a record never changes
-abbrev pub named : Record → Record
-named r = with_state Open r
+-- a record with its state left out: what of it never changes
+abbrev pub without_state : Record → Record
+without_state r = with_state Open r
 
 -- the record of a row that begins
 abbrev pub opened : RowKey → Entry → Record

@@ -1,8 +1,8 @@
 -- Running rows dropped at the host, and the rows that fall. Assumes nothing.
-use Rattle.std.proofs.Common.{◌≡◌, ℕ, suc, ◌+◌, ◌<◌, ◌≤◌, Bool, true, false, cond, not, ◌&&◌, [], ◌∷◌, Some, None, Option, refl, sym, ap, ◌∙◌, ap₂, add-one, inl, inr, arith}
+use Rattle.std.proofs.Common.{◌≡◌, ℕ, suc, ◌+◌, ◌<◌, ◌≤◌, Bool, true, false, cond, not, ◌&&◌, [], ◌∷◌, Some, None, Err, Option, Result, refl, sym, ap, ◌∙◌, ap₂, add-one, inl, inr, arith}
 use Rattle.std.proofs.lemmas.Bool.{le-ltb, cases_Bool, cases_eq, cases_lt}
 use Rattle.std.proofs.lemmas.Bool.Decides.{nat_tests}
-use Rattle.values.specs.Checks.{first_fault, bad, bad_at, after}
+use Rattle.values.specs.Checks.{first_fault, bad, bad_at, answer, after}
 use Rattle.values.specs.declared.Cause.TheVariants.{ShutHost, OtherState}
 use Rattle.values.specs.declared.Fault.{Fault}
 use Rattle.values.specs.declared.HostState.{HostState}
@@ -82,6 +82,11 @@ runs_as_row t k runs =
 -- it would drop those up to a number
 pub Clear : Rows → View → ℕ → Type 0
 Clear r v last = (k : ℕ) → k ≤ last → in_state r Running k ≡ true → first_fault (move_checks Open v (key_of k)) ≡ None
+
+-- the fault of a declined answer
+pub fails_with : (f : Option Fault) (r : Result (Unit {0}) Fault) (e : Fault) → r ≡ answer f tt → r ≡ Err e → f ≡ Some e
+fails_with None r e a d = grind arith
+fails_with (Some x) r e a d = grind arith
 
 -- row 0 is none
 pub clear_first : (t : RowTable) (v : View) → Clear (rows_of t) v 0

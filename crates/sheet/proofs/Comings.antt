@@ -26,7 +26,7 @@ pub none_stands : (o : Option Fault) → Passes o → o ≡ None
 none_stands None h = refl
 none_stands (Some f) h = cc
 
-one_stands : (o : Option Fault) (f : Fault) → Fails o f → o ≡ Some f
+pub one_stands : (o : Option Fault) (f : Fault) → Fails o f → o ≡ Some f
 one_stands None f h = cc
 one_stands (Some g) f h = cc
 

@@ -7,6 +7,7 @@ pub mod Rolling
 pub mod Phases
 pub mod Clearing
 pub mod Running
+pub mod Asking
 pub mod Going
 pub mod Belonging
 pub mod Puts

@@ -5,6 +5,7 @@ pub mod SheetOf
 pub mod Candidates
 pub mod Calls
 pub mod Tickets
+pub mod Asked
 pub mod Reports
 pub mod Lent
 pub mod Happenings

@@ -7,6 +7,8 @@ ghost use Rattle.model.specs.Run.{column_after};
 ghost use Rattle.model.specs.Sheet.{aborted};
 ghost use Rattle.values.specs.Checks.{answer, first_fault};
 ghost use Rattle.model.specs.Calls.{mode_check, all_dropped};
+ghost use Rattle.host.specs.Made.{Made};
+ghost use Rattle.sheet.specs.Asked.{abort_asks, drops};
 ghost use Rattle.sheet.specs.Calls.{abort_own_checks, drop_checks, Droppable};
 ghost use Rattle.sheet.specs.Tickets.{Aborts, AbortsNumbered};
 ghost use Rattle.sheet.specs.SheetOf.{sheet_of, chart_of};
@@ -35,6 +37,7 @@ impl Sheet {
     fn drop_running<X: Host>(&self, host: &mut X)
         requires { Droppable (sheet_of self.now).rows (X.Host.view host.old) }
         ensures drops { X.Host.view host.new ≡ all_dropped (sheet_of self.now).rows (X.Host.view host.old) }
+        ensures made { Made X.Host.view X.Host.makes host.old (drops (sheet_of self.now).rows) host.new }
         ensures goes { X.Host.goes host.old host.new }
     {
         let to_drop = self.table.rows_in(RowState::Running);
@@ -67,6 +70,7 @@ impl Sheet {
         requires room { enough (length (held scratch.old.marks.now)) (length scratch.old.line.now) ≡ true }
         ensures sheet { sheet_of self.new ≡ aborted (chart_of self.old) (sheet_of self.old) mode }
         ensures host { X.Host.view host.new ≡ all_dropped (sheet_of self.old).rows (X.Host.view host.old) }
+        ensures made { Made X.Host.view X.Host.makes host.old (drops (sheet_of self.old).rows) host.new }
         ensures goes { X.Host.goes host.old host.new }
         ensures process { self.new.process ≡ self.old.process }
         ensures loans { SameLoans scratch.old scratch.new }
@@ -94,6 +98,8 @@ impl Sheet {
     ) -> Result<TicketNumber, Fault>
         ensures comes { AbortsNumbered (chart_of self.old) (sheet_of self.old) (X.Host.view host.old) mode
             (length column.old) (length line.old) result (sheet_of self.new) (X.Host.view host.new) }
+        ensures made { Made X.Host.view X.Host.makes host.old (abort_asks (sheet_of self.old) (X.Host.view host.old) mode
+            (length column.old) (length line.old)) host.new }
         ensures goes { X.Host.goes host.old host.new }
         ensures process { self.new.process ≡ self.old.process }
         ensures column { column.new ≡ column_after column.old (length line.old) }
@@ -121,6 +127,8 @@ impl Sheet {
     ) -> Result<Ticket, Fault>
         ensures comes { Aborts (chart_of self.old) (sheet_of self.old) (X.Host.view host.old) mode
             (length column.old) (length line.old) result (sheet_of self.new) (X.Host.view host.new) }
+        ensures made { Made X.Host.view X.Host.makes host.old (abort_asks (sheet_of self.old) (X.Host.view host.old) mode
+            (length column.old) (length line.old)) host.new }
         ensures goes { X.Host.goes host.old host.new }
         ensures process { self.new.process ≡ self.old.process }
         ensures column { column.new ≡ column_after column.old (length line.old) }

@@ -2,6 +2,8 @@
 ghost use Rattle.std.specs.Prelude.{◌≡◌};
 ghost use Rattle.values.specs.Checks.{answer, first_fault};
 ghost use Rattle.model.specs.Calls.{row_check};
+ghost use Rattle.host.specs.Made.{Made};
+ghost use Rattle.sheet.specs.Asked.{end_asks};
 ghost use Rattle.sheet.specs.Calls.{end_checks, Ends};
 ghost use Rattle.sheet.specs.SheetOf.{sheet_of};
 
@@ -31,6 +33,7 @@ impl Sheet {
     pub fn end<X: Host>(&mut self, host: &mut X, row: u16) -> Result<(), Fault>
         ensures comes { Ends (sheet_of self.old) (X.Host.view host.old) row result
             (sheet_of self.new) (X.Host.view host.new) }
+        ensures made { Made X.Host.view X.Host.makes host.old (end_asks (sheet_of self.old) row) host.new }
         ensures goes { X.Host.goes host.old host.new }
         ensures process { self.new.process ≡ self.old.process }
     {

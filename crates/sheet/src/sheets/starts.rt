@@ -6,6 +6,8 @@ ghost use Rattle.model.specs.Search.{first_below};
 ghost use Rattle.model.specs.Chart.{by_flow, is_arrow};
 ghost use Rattle.model.specs.Rows.{in_state, any_live};
 ghost use Rattle.model.specs.Calls.{phase_check};
+ghost use Rattle.host.specs.Made.{Made};
+ghost use Rattle.sheet.specs.Asked.{start_asks};
 ghost use Rattle.sheet.specs.Candidates.{sheet_for, chart_for, counted, unfit, used, fair, checks};
 ghost use Rattle.sheet.specs.Calls.{Starts};
 ghost use Rattle.sheet.specs.SheetOf.{sheet_of, chart_of};
@@ -185,6 +187,8 @@ impl Sheet {
     ) -> Result<u16, Fault>
         ensures comes { Starts (chart_of self.old) (sheet_of self.old) (X.Host.view host.old)
             step predecessors.now entry result (sheet_of self.new) (X.Host.view host.new) }
+        ensures made { Made X.Host.view X.Host.makes host.old
+            (start_asks (chart_of self.old) (sheet_of self.old) step predecessors.now entry) host.new }
         ensures goes { X.Host.goes host.old host.new }
         ensures process { self.new.process ≡ self.old.process }
     {

@@ -5,6 +5,8 @@ ghost use Rattle.graph.specs.Held.{held};
 ghost use Rattle.graph.specs.Scratch.{SameLoans};
 ghost use Rattle.process.specs.Accepted.{enough};
 ghost use Rattle.model.specs.Run.{column_after};
+ghost use Rattle.host.specs.Made.{Made};
+ghost use Rattle.sheet.specs.Asked.{undo_asks};
 ghost use Rattle.sheet.specs.SheetOf.{sheet_of};
 ghost use Rattle.sheet.specs.Tickets.{undo_own_checks, Undoes};
 
@@ -42,6 +44,8 @@ impl Sheet {
     ) -> Result<(), Fault>
         ensures comes { Undoes (sheet_of self.old) (X.Host.view host.old) ticket row
             (length column.old) (length line.old) result (sheet_of self.new) (X.Host.view host.new) }
+        ensures made { Made X.Host.view X.Host.makes host.old
+            (undo_asks (sheet_of self.old) ticket row (length column.old) (length line.old)) host.new }
         ensures goes { X.Host.goes host.old host.new }
         ensures process { self.new.process ≡ self.old.process }
         ensures column { column.new ≡ column_after column.old (length line.old) }
@@ -70,6 +74,8 @@ impl Sheet {
     ) -> Result<(), Fault>
         ensures comes { Undoes (sheet_of self.old) (X.Host.view host.old) ticket.now.number row
             (length column.old) (length line.old) result (sheet_of self.new) (X.Host.view host.new) }
+        ensures made { Made X.Host.view X.Host.makes host.old
+            (undo_asks (sheet_of self.old) ticket.now.number row (length column.old) (length line.old)) host.new }
         ensures goes { X.Host.goes host.old host.new }
         ensures process { self.new.process ≡ self.old.process }
         ensures column { column.new ≡ column_after column.old (length line.old) }

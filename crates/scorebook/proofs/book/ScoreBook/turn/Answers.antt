@@ -1,9 +1,11 @@
 -- A row in the state that the move wants is turned.
-use Rattle.std.proofs.Common.{length, take, map, ap, ◌∙◌}
+use Rattle.std.proofs.Common.{◌-◌, length, drop, map, sym, ap, subst, ◌∙◌}
+use Rattle.host.specs.Laws.{prefix_stays, rest_stays}
+use Rattle.host.specs.Table.{IsPrefix}
 use Rattle.host.proofs.Checks.{passes}
-use Rattle.scorebook.specs.Book.{records_of}
-use Rattle.scorebook.specs.Records.{named}
-use Rattle.scorebook.proofs.Growing.{turned_named}
+use Rattle.scorebook.specs.Book.{records_of, rest_of}
+use Rattle.scorebook.specs.Records.{without_state}
+use Rattle.scorebook.proofs.Growing.{turned_same, turned_length}
 use Rattle.scorebook.proofs.Shows.{turn_moves}
 use Rattle.scorebook.proofs.book.ScoreBook.turn.Goals as goal
 
@@ -15,6 +17,12 @@ returns-clause-does c =
 
 pub returns-clause-goes : goal.returns-clause-goes
 returns-clause-goes c =
-    let xs = records_of c.args.self.now in record {
-      records = ap (λ ys. take (length xs) (map named ys)) c.restate.ensures.records ∙ turned_named xs c.args.row c.args.to;
+    let b = c.args.self.now in
+    let xs = records_of b in
+    let turns = c.restate.ensures.records in
+    let same = ap (map without_state) turns ∙ turned_same xs c.args.row c.args.to in
+    let size = ap length turns ∙ turned_length xs c.args.row c.args.to in
+    record {
+      records = subst (IsPrefix (map without_state xs)) (sym same) (prefix_stays (map without_state xs));
+      rest = c.restate.ensures.rest ∙ rest_stays (length xs) (rest_of b) ∙ ap (λ n. drop (n - length xs) (rest_of b)) (sym size);
     }

@@ -1,9 +1,11 @@
 -- The memory first, then the checks of undo, and then those of the host.
-use Rattle.std.proofs.Common.{length, sym, ap, refl, ◌∙◌, subst, rules}
+use Rattle.std.proofs.Common.{[], ◌∷◌, length, sym, ap, refl, ◌∙◌, subst, rules}
 use mathlib.Core.Logic.{∥∥₁_map}
 use Rattle.values.specs.declared.HostState.TheVariants.{Standing}
 use Rattle.values.specs.declared.RowState.TheVariants.{Due, Undone}
+use Rattle.values.specs.Checks.{first_fault}
 use Rattle.host.specs.Keys.{key_of}
+use Rattle.host.specs.declared.calls.Call.TheVariants.{Undo}
 use Rattle.host.specs.View.{move_checks}
 use Rattle.model.specs.Calls.{memory_check}
 use Rattle.model.specs.Rows.{marked}
@@ -13,6 +15,8 @@ use Rattle.model.proofs.Kept.{on_undo}
 use Rattle.sheet.specs.Graphs.{HasGraph}
 use Rattle.sheet.specs.SheetOf.{sheet_of, chart_of}
 use Rattle.sheet.specs.Tickets.{undo_own_checks}
+use Rattle.sheet.specs.Asked.{unless}
+use Rattle.sheet.proofs.Asking.{not_asked, asked, asked_one}
 use Rattle.sheet.proofs.Clearing.{left_cleared}
 use Rattle.sheet.proofs.Comings.{own_declines, host_declines, both_accept, passed_first, none_declines, other_rows, put_into}
 use Rattle.sheet.proofs.Graphs.{graph_state, graph_put}
@@ -78,3 +82,54 @@ returns-in_err-undo-clause-column g c = left_cleared c.args.column.now (length c
 
 pub returns-clause-column : goal.returns-clause-column
 returns-clause-column g c = left_cleared c.args.column.now (length c.args.line.now) (search rules)
+
+pub returns-in_err-wants_memory-clause-made : goal.returns-in_err-wants_memory-clause-made
+returns-in_err-wants_memory-clause-made g c =
+    let x = c.args.self.now in
+    let view = g.X.Host.view in
+    let makes = g.X.Host.makes in
+    let call = Undo (key_of c.args.row) in
+    let host = c.args.host.now in
+    let memory = memory_check (length c.args.column.now) (length c.args.line.now) in
+    let own = first_fault (undo_own_checks (sheet_of x) c.args.ticket c.args.row) in
+    not_asked view makes memory (unless own (call ∷ [])) host c.in_err-wants_memory.ensures
+
+pub returns-in_err-may_undo-clause-made : goal.returns-in_err-may_undo-clause-made
+returns-in_err-may_undo-clause-made g c =
+    let x = c.args.self.now in
+    let view = g.X.Host.view in
+    let makes = g.X.Host.makes in
+    let call = Undo (key_of c.args.row) in
+    let host = c.args.host.now in
+    let memory = memory_check (length c.args.column.now) (length c.args.line.now) in
+    let own = first_fault (undo_own_checks (sheet_of x) c.args.ticket c.args.row) in
+    asked view makes memory (unless own (call ∷ [])) host host c.in_ok-wants_memory.ensures
+    (not_asked view makes own (call ∷ []) host c.in_err-may_undo.ensures.checks)
+
+pub returns-in_err-undo-clause-made : goal.returns-in_err-undo-clause-made
+returns-in_err-undo-clause-made g c =
+    let x = c.args.self.now in
+    let view = g.X.Host.view in
+    let makes = g.X.Host.makes in
+    let call = Undo (key_of c.args.row) in
+    let host = c.args.host.now in
+    let memory = memory_check (length c.args.column.now) (length c.args.line.now) in
+    let own = first_fault (undo_own_checks (sheet_of x) c.args.ticket c.args.row) in
+    let b = simp c.row_key.ensures at c.undo.ensures in
+    asked view makes memory (unless own (call ∷ [])) host c.undo.new.self c.in_ok-wants_memory.ensures
+    (asked_one view makes own call host c.undo.new.self c.undo.result c.in_ok-may_undo.ensures.checks
+    (record { shows = record { answers = b.does.answers; shows = b.does.shows }; made = b.made }))
+
+pub returns-clause-made : goal.returns-clause-made
+returns-clause-made g c =
+    let x = c.args.self.now in
+    let view = g.X.Host.view in
+    let makes = g.X.Host.makes in
+    let call = Undo (key_of c.args.row) in
+    let host = c.args.host.now in
+    let memory = memory_check (length c.args.column.now) (length c.args.line.now) in
+    let own = first_fault (undo_own_checks (sheet_of x) c.args.ticket c.args.row) in
+    let b = simp c.row_key.ensures at c.undo.ensures in
+    asked view makes memory (unless own (call ∷ [])) host c.undo.new.self c.in_ok-wants_memory.ensures
+    (asked_one view makes own call host c.undo.new.self c.undo.result c.in_ok-may_undo.ensures.checks
+    (record { shows = record { answers = b.does.answers; shows = b.does.shows }; made = b.made }))
