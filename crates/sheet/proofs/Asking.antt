@@ -20,3 +20,8 @@ module _ {X : Type 0} (view : X → View) (makes : X → Call → Result (Unit {
   pub asked_one : (c : Call) (x y : X) (r : Result (Unit {0}) Fault) → Passes f → Called view makes x c r y
       → Made view makes x (unless f (c ∷ [])) y
   asked_one c x y r passes done = asked (c ∷ []) x y passes (made_one view makes x c r y done)
+
+-- a host that is not called
+pub still : {X : Type 0} (view : X → View) (makes : X → Call → Result (Unit {0}) Fault → X → Type 0) (goes : X → X → Type 0)
+    → ((x : X) → goes x x) → (x y : X) → y ≡ x → Made view makes x [] y × goes x y
+still view makes goes stays x y same = subst (λ z. Made view makes x [] z × goes x z) (sym same) (none, stays x)

@@ -1,19 +1,21 @@
 -- What events carry on. Assumes nothing.
-use Rattle.std.proofs.Common.{◌≡◌, ℕ, map, ◌+◌, ◌<◌, ◌≤◌, List, [], ◌∷◌, ◌++◌, length, get_or, Some, None, Option, sym, refl, ap, ◌∙◌, subst, arith}
+use Rattle.std.proofs.Common.{◌≡◌, ℕ, ◌+◌, ◌<◌, List, [], ◌∷◌, ◌++◌, length, get_or, set, take, Some, None, Option, Result, sym, refl, ap, ◌∙◌, subst, arith}
 use Rattle.std.specs.List.{zip}
-use Rattle.std.proofs.lemmas.List.{append-nil, append_assoc, length_push, map-append}
+use Rattle.std.proofs.lemmas.List.{append-nil, append_assoc, length_push, length-take-le, map-append, take_more_set}
 use Rattle.values.specs.declared.Answer.{Answer}
 use Rattle.values.specs.declared.Fault.{Fault}
-use Rattle.host.specs.Commands.{Left}
+use Rattle.host.specs.Commands.{Controlled}
 use Rattle.host.specs.View.{View}
+use Rattle.host.specs.declared.calls.Call.{Call}
 use Rattle.model.specs.Chart.{Chart}
 use Rattle.model.specs.Run.{World, Event as Happening, does, History, Leads, nothing, one_more}
 use Rattle.model.proofs.Law.{law_over_every_run}
 use Rattle.sheet.specs.declared.events.Event.{Event}
 use Rattle.sheet.specs.declared.events.Taken.{Taken}
-use Rattle.sheet.specs.Happenings.{happening, history_of, command_of, AtHost, Steered, Along}
-use Rattle.sheet.specs.Happenings.{nothing as along_nothing, one_more as along_one}
-use Rattle.sheet.specs.Runs.{Does, GoesOn}
+use Rattle.sheet.specs.declared.replay.Competition.{Competition}
+use Rattle.sheet.specs.Happenings.{happening, history, command_of}
+use Rattle.sheet.specs.Runs.{world_of, process_of, Does, GoesOn, HostAfter, Takes, TakesAll}
+use Rattle.sheet.specs.Runs.{nothing as takes_nothing, one_more as takes_more}
 
 -- one history after another
 leads_on : (c : Chart) (first : World) {g : History} {w : World} {h : History} {w' : World}
@@ -56,6 +58,9 @@ pub goes_one : (c : Chart) (w : World) (e : Happening) (a : Answer) (w' : World)
 goes_one c w e a w' h = goes_on c w (subst (λ (x : World × Answer). Leads c w ((e, x.1) ∷ []) x.0) h (one_more nothing e))
 
 module _ {C : Type 0} where
+  abbrev told_as : Event C × Taken → Happening × Answer
+  told_as x = (happening x.1.shut x.0, x.1.answer)
+
   -- nothing is told of no event
   zip_none : (es : List (Event C)) → zip {X = Taken} es [] ≡ []
   zip_none [] = refl
@@ -68,70 +73,54 @@ module _ {C : Type 0} where
   zip_more (x ∷ es) [] t e low at = ap (λ y. (y, t) ∷ zip es []) (sym at) ∙ ap (λ l. (e, t) ∷ l) (zip_none es)
   zip_more (x ∷ es) (u ∷ ts) t e low at = ap (λ l. (x, u) ∷ l) (zip_more es ts t e (omega (arith, low)) at)
 
-  abbrev told_as : Event C × Taken → Happening × Answer
-  told_as x = (happening x.1.shut x.0, x.1.answer)
+  module _ {X : Type 0} (view : X → View) (makes : X → Call → Result (Unit {0}) Fault → X → Type 0) (goes : X → X → Type 0)
+      (declines : X → C → Option Fault) (leaves : X → C → X → Type 0) where
+    abbrev TakesSo : Competition X → List (Event C × Taken) → Competition X → Type 0
+    TakesSo = TakesAll view makes goes declines leaves
 
-  history_more : (es : List (Event C)) (ts : List Taken) (t : Taken) (e : Event C) → length ts < length es
-      → e ≡ get_or es (length ts) e
-      → history_of es (ts ++ t ∷ []) ≡ history_of es ts ++ history_of (e ∷ []) (t ∷ [])
-  history_more es ts t e low at = ap (map told_as) (zip_more es ts t e low at) ∙ map-append told_as (zip es ts) ((e, t) ∷ [])
+    pub taken_none : (first : Competition X) (es : List (Event C)) (places : List Taken) → TakesSo first (zip es (take 0 places)) first
+    taken_none first es places = subst (λ l. TakesSo first l first) (sym (zip_none es)) takes_nothing
 
-  -- the first events of a list were taken, as many as it was told of
-  pub record Gone (c : Chart) (first : World) (es : List (Event C)) (at : ℕ) (ts : List Taken) (w : World) : Type 0 where
-    pub few : at ≤ length es
-    pub told : length ts ≡ at
-    pub leads : Leads c first (history_of es ts) w
+    -- one event more, told of in the next place
+    pub taken_more : (first x y : Competition X) (es : List (Event C)) (places : List Taken) (i : ℕ) (e : Event C) (t : Taken)
+        → i < length es → i < length places → e ≡ get_or es i e → Takes view makes goes declines leaves x e t y
+        → TakesSo first (zip es (take i places)) x → TakesSo first (zip es (take (i + 1) (set places i t))) y
+    taken_more first x y es places i e t low room is one so_far =
+        let size : length (take i places) ≡ i = length-take-le i places (omega (arith, room)) in
+        let below : length (take i places) < length es = omega (arith, size, low) in
+        let here : e ≡ get_or es (length (take i places)) e = subst (λ n. e ≡ get_or es n e) (sym size) is in
+        subst (λ l. TakesSo first l y) (sym (ap (zip es) (take_more_set places i t room) ∙ zip_more es (take i places) t e below here))
+        (takes_more so_far e t one)
 
-  pub gone_first : (c : Chart) (first : World) (es : List (Event C)) (ts : List Taken) → ts ≡ [] → Gone c first es 0 ts first
-  gone_first c first es ts none = record {
-    few = omega arith;
-    told = ap length none;
-    leads = subst (λ (x : List Taken). Leads c first (history_of es x) first) (sym none)
-        (subst (λ l. Leads c first (map told_as l) first) (sym (zip_none es)) nothing);
-  }
+    -- the process is the same throughout
+    same_process : {first last : Competition X} {h : List (Event C × Taken)} → TakesSo first h last → process_of last ≡ process_of first
+    same_process takes_nothing = refl
+    same_process (takes_more a e t one) = one.process ∙ same_process a
 
-  pub gone_more : (c : Chart) (first : World) (es : List (Event C)) (at : ℕ) (ts : List Taken) (w : World) (e : Event C) (ts' : List Taken) (t : Taken) (w' : World)
-      → at < length es → e ≡ get_or es at e → Gone c first es at ts w → ts' ≡ ts ++ t ∷ []
-      → {p : Chart} → p ≡ c → GoesOn p w (history_of (e ∷ []) (t ∷ [])) w'
-      → Gone c first es (at + 1) ts' w'
-  gone_more c first es at ts w e ts' t w' low is gone more {p} same one =
-      let leads : Leads c w (history_of (e ∷ []) (t ∷ [])) w' = subst (λ x. Leads x w (history_of (e ∷ []) (t ∷ [])) w') same one.leads in
-      let below : length ts < length es = omega (arith, low, gone.told) in
-      let here : e ≡ get_or es (length ts) e = subst (λ n. e ≡ get_or es n e) (sym gone.told) is in
-      record {
-        few = omega (arith, low);
-        told = ap length more ∙ length_push ts t ∙ ap (λ n. n + 1) gone.told;
-        leads = subst (λ (x : List Taken). Leads c first (history_of es x) w') (sym more)
-            (subst (λ h. Leads c first h w') (sym (history_more es ts t e below here)) (leads_on c first gone.leads leads));
-      }
-
-  module _ {X : Type 0} (view : X → View) (goes : X → X → Type 0) (declines : X → C → Option Fault) (leaves : X → C → X → Type 0) where
-    pub along_first : (first : X) (es : List (Event C)) (ts : List Taken) → ts ≡ []
-        → Along view goes declines leaves first (zip es ts) first
-    along_first first es ts none =
-        subst (λ l. Along view goes declines leaves first l first) (sym (ap (zip es) none ∙ zip_none es)) along_nothing
-
-    pub along_more : (first x y : X) (es : List (Event C)) (at : ℕ) (ts : List Taken) (e : Event C) (ts' : List Taken) (t : Taken)
-        → at < length es → e ≡ get_or es at e → length ts ≡ at → ts' ≡ ts ++ t ∷ []
-        → AtHost view goes declines leaves e x t y → Along view goes declines leaves first (zip es ts) x
-        → Along view goes declines leaves first (zip es ts') y
-    along_more first x y es at ts e ts' t low is told more here_host along =
-        let below : length ts < length es = omega (arith, low, told) in
-        let here : e ≡ get_or es (length ts) e = subst (λ n. e ≡ get_or es n e) (sym told) is in
-        subst (λ l. Along view goes declines leaves first l y) (sym (ap (zip es) more ∙ zip_more es ts t e below here))
-        (along_one along e t here_host)
+    -- the definitions lead along
+    pub taken_leads : (first : Competition X) {last : Competition X} {h : List (Event C × Taken)} → TakesSo first h last
+        → Leads (process_of first) (world_of view first) (history h) (world_of view last)
+    taken_leads first takes_nothing = nothing
+    taken_leads first {last} (takes_more {h = h} {x = x} a e t one) =
+        let c = process_of first in
+        let does : does c (world_of view x) (happening t.shut e) ≡ (world_of view last, t.answer) =
+        subst (λ p. does p (world_of view x) (happening t.shut e) ≡ (world_of view last, t.answer)) (same_process a) one.does in
+        subst (λ l. Leads c (world_of view first) l (world_of view last)) (sym (map-append told_as h ((e, t) ∷ [])))
+        (subst (λ (r : World × Answer). Leads c (world_of view first) (history h ++ (happening t.shut e, r.1) ∷ []) r.0) does
+        (one_more (taken_leads first a) (happening t.shut e)))
 
     -- what no call and no command undoes holds from the first host to the last
     module _ (keeps : X → X → Type 0) (stays : (x : X) → keeps x x) (on : (x y z : X) → keeps x y → keeps y z → keeps x z)
         (calls : (x y : X) → goes x y → keeps x y) (commands : (x : X) (c : C) (y : X) → leaves x c y → keeps x y) where
-      pub steered_keeps : (c : Option C) (x y : X) → Steered goes declines leaves x c y → keeps x y
-      steered_keeps None x y s = calls x y s
-      steered_keeps (Some c) x y s = left (declines x c) s
+      pub host_keeps : (c : Option C) (asks : List Call) (x y : X) → HostAfter view makes goes declines leaves x c asks y → keeps x y
+      host_keeps None asks x y h = calls x y h.1
+      host_keeps (Some c) asks x y h = left (declines x c) h
         where
-          left : (f : Option Fault) → Left f leaves x c y → keeps x y
+          left : (f : Option Fault) → Controlled f leaves x c y → keeps x y
           left None l = commands x c y l
           left (Some f) l = subst (keeps x) (sym l) (stays x)
 
-      pub along_keeps : {first last : X} {h : List (Event C × Taken)} → Along view goes declines leaves first h last → keeps first last
-      along_keeps {first} along_nothing = stays first
-      along_keeps {first} (along_one {x = x} {y = y} a e t h) = on first x y (along_keeps a) (steered_keeps (command_of e) x y h.steered)
+      pub taken_keeps : {first last : Competition X} {h : List (Event C × Taken)} → TakesSo first h last → keeps first.host last.host
+      taken_keeps {first} takes_nothing = stays first.host
+      taken_keeps {first} {last} (takes_more {x = x} a e t one) =
+          on first.host x.host last.host (taken_keeps a) (host_keeps (command_of e) _ x.host last.host one.host)

@@ -1,12 +1,20 @@
 -- A competition as a world of the model, and what an event or a list of events carries on. Assumes nothing.
-use Rattle.std.specs.Prelude.{◌≡◌, ℕ, ◌++◌}
+use Rattle.std.specs.Prelude.{◌≡◌, ℕ, ◌<◌, true, List, [], ◌∷◌, ◌++◌, length, slice_index_or, None, Some, Option, Result}
 use Rattle.values.specs.declared.Answer.{Answer}
-use Rattle.host.specs.Known.{Known, known_by}
+use Rattle.values.specs.declared.Fault.{Fault}
+use Rattle.host.specs.Commands.{Controlled}
+use Rattle.host.specs.Known.{Known, known_by, Sorted}
+use Rattle.host.specs.Made.{Made}
+use Rattle.host.specs.declared.calls.Call.{Call}
 use Rattle.host.specs.View.{View, Fresh, Sound}
 use Rattle.model.specs.Chart.{Chart}
 use Rattle.model.specs.Run.{World, Lent, Event, does, world, History, Leads, opening}
 use Rattle.model.specs.Histories.{LawfulHistory}
 use Rattle.model.specs.Sheets.{with_rows_known}
+use Rattle.sheet.specs.Asked.{event_asks}
+use Rattle.sheet.specs.Happenings.{happening, command_of, refused_by, lends}
+use Rattle.sheet.specs.declared.events.Event.{Event as HostEvent}
+use Rattle.sheet.specs.declared.events.Taken.{Taken}
 use Rattle.sheet.specs.SheetOf.{sheet_of, chart_of}
 use Rattle.sheet.specs.Lent.{lent_of}
 use Rattle.sheet.specs.declared.replay.Competition.{Competition}
@@ -29,13 +37,45 @@ pub record GoesOn (c : Chart) (before : World) (h : History) (then : World) : Ty
   pub law : (serial : ℕ) (v : View) (l : Lent) → Fresh v → Sound v → (g : History)
       → Leads c (opening serial v l) g before → LawfulHistory c (opening serial v l) (g ++ h) then
 
--- under the keys of the sheet's rows each part of the host knows exactly those rows that belong there, each with its entry and in the
--- state that goes with the row's; under all other keys it knows what it knew when the host showed v
-abbrev pub Belong : {X : Type 0} → (X → Known → Type 0) → View → Competition X → Type 0
-Belong holds v x = holds x.host (with_rows_known (sheet_of x.sheet) (known_by v))
+-- what an event leaves of the host, in the host's own terms: a command what the host says of it, and every other event what its calls
+-- make of it one after another
+abbrev pub HostAfter : {X C : Type 0} → (X → View) → (X → Call → Result (Unit {0}) Fault → X → Type 0) → (X → X → Type 0)
+    → (X → C → Option Fault) → (X → C → X → Type 0) → X → Option C → List Call → X → Type 0
+HostAfter view makes goes declines leaves before None asks then = Made view makes before asks then × goes before then
+HostAfter view makes goes declines leaves before (Some c) asks then = Controlled (declines before c) leaves before c then
 
--- whatever run from a blank sheet at a fresh host that showed v came here with its rows where they belong, they still are there
-abbrev pub StillBelong : {X : Type 0} → Chart → (X → View) → (X → Known → Type 0) → Competition X → Competition X → Type 0
-StillBelong c view holds before then =
-    (serial : ℕ) (v : View) (l : Lent) → Fresh v → Sound v → (g : History) → Leads c (opening serial v l) g (world_of view before)
-    → Belong holds v before → Belong holds v then
+-- a competition takes one event, and this is told of it
+pub record Takes {X C : Type 0} (view : X → View) (makes : X → Call → Result (Unit {0}) Fault → X → Type 0) (goes : X → X → Type 0)
+    (declines : X → C → Option Fault) (leaves : X → C → X → Type 0) (before : Competition X) (e : HostEvent C) (t : Taken) (then : Competition X) : Type 0 where
+  -- the answer, and the world after it, are those that the definitions name
+  pub does : Does (process_of before) (world_of view before) (happening t.shut e) t.answer (world_of view then)
+  pub process : process_of then ≡ process_of before
+  -- the host is what the event leaves of it
+  pub host : HostAfter view makes goes declines leaves before.host (command_of e)
+      (event_asks (process_of before) (world_of view before) (happening t.shut e)) then.host
+  -- whether the host is shut then is told, and the fault of a command that it declined
+  pub shut : t.shut ≡ (view then.host).shut
+  pub refused : t.refused ≡ refused_by declines before.host (command_of e)
+
+-- it takes the events of a list, one after another
+pub data TakesAll {X C : Type 0} (view : X → View) (makes : X → Call → Result (Unit {0}) Fault → X → Type 0) (goes : X → X → Type 0)
+    (declines : X → C → Option Fault) (leaves : X → C → X → Type 0) (first : Competition X) : List (HostEvent C × Taken) → Competition X → Type 0 where
+  nothing : TakesAll view makes goes declines leaves first [] first
+  one_more : {h : List (HostEvent C × Taken)} {x y : Competition X} → TakesAll view makes goes declines leaves first h x
+      → (e : HostEvent C) (t : Taken) → Takes view makes goes declines leaves x e t y
+      → TakesAll view makes goes declines leaves first (h ++ (e, t) ∷ []) y
+
+-- whatever run from a blank sheet at a fresh host came here: where each row of the host is where it belongs, then afterwards under the
+-- keys of the sheet's rows each part of the host knows exactly those rows that belong there, each with its entry and in the state that
+-- goes with the row's, and under all other keys it knows what it knew
+abbrev pub Belong : {X : Type 0} → (X → View) → (X → Known → Type 0) → Competition X → Competition X → Type 0
+Belong view holds before then =
+    (serial : ℕ) (v : View) (l : Lent) → Fresh v → Sound v
+    → (g : History) → Leads (process_of before) (opening serial v l) g (world_of view before) → Sorted view holds before.host
+    → holds then.host (with_rows_known (sheet_of then.sheet) (known_by (view before.host)))
+
+-- memory ran out before an event of a list that lends other memory, where there was a place to tell of it
+pub record RanOut {C : Type 0} (es : List (HostEvent C)) (places taken : ℕ) : Type 0 where
+  pub event : taken < length es
+  pub place : taken < places
+  pub lends : (e : HostEvent C) → lends (slice_index_or es taken e) ≡ true

@@ -67,6 +67,13 @@ pub struct Taken {
 }
 
 impl Taken {
+    /// A place for what comes of an event.
+    pub const PLACE: Taken = Taken {
+        answer: Answer::Done,
+        shut: false,
+        refused: None,
+    };
+
     /// What is told of the event in one: the fault of a declined command, or else the answer.
     pub fn told(&self) -> Answer
         ensures { result ≡ told_by self.now }

@@ -1,13 +1,13 @@
 // A competition, event after event.
-ghost use Rattle.std.specs.Prelude.{◌≡◌, ◌≢◌, ℕ, ◌<◌, ◌≤◌, [], ◌∷◌, ◌++◌, length, None, vec_items, IfOk, OnErr, OnOk};
+ghost use Rattle.std.specs.Prelude.{◌≡◌, ◌≢◌, true, min, [], ◌∷◌, length, take, drop, None, IfOk, IfErr, OnErr};
 ghost use Rattle.std.specs.List.{zip};
+ghost use Rattle.host.specs.Known.{Sorted};
 ghost use Rattle.host.specs.View.{Fresh};
 ghost use Rattle.model.specs.Run.{world};
-ghost use Rattle.model.specs.Sheet.{blank};
-ghost use Rattle.sheet.specs.Happenings.{history_of, AtHost, Along};
+ghost use Rattle.sheet.specs.Happenings.{history_of, lends};
 ghost use Rattle.sheet.specs.Lent.{lent_of};
 ghost use Rattle.sheet.specs.SheetOf.{sheet_of, chart_of};
-ghost use Rattle.sheet.specs.Runs.{world_of, process_of, GoesOn, Belong, StillBelong};
+ghost use Rattle.sheet.specs.Runs.{world_of, process_of, Takes, TakesAll, GoesOn, Belong, RanOut};
 
 use crate::events::{Event, Taken};
 use crate::memory::Memory;
@@ -33,8 +33,7 @@ impl<X: Host> Competition<X> {
         ensures world { world_of X.Host.view result ≡ world (sheet_of sheet) (X.Host.view host) (lent_of memory) }
         ensures process { process_of result ≡ chart_of sheet }
         ensures host { result.host ≡ host }
-        ensures belong { (serial : ℕ) → sheet_of sheet ≡ blank serial → Fresh (X.Host.view host)
-            → Belong X.Host.holds (X.Host.view host) result }
+        ensures sorted { Fresh (X.Host.view host) → Sorted X.Host.view X.Host.holds result.host }
     {
         Competition {
             sheet,
@@ -79,21 +78,26 @@ impl<X: Host> Competition<X> {
     }
 }
 
-/// What came of a list of events, as far as they were taken, and whether memory ran out before the next.
-#[derive(Drop)]
+/// How far the events of a list were taken.
+#[derive(Clone, Copy, PartialEq, Eq, Debug, Drop)]
 pub struct Replayed {
-    pub taken: Vec<Taken>,
+    /// How many were taken. So many of the lent places say what came of each.
+    pub taken: usize,
+    /// Set where memory ran out before the next event, which lends other memory. Else all were taken, or the places ended.
     pub stopped: Option<AllocError>,
 }
 
 impl<X: Controls> Competition<X> {
-    /// Takes one event: a call is made, other memory is lent, or the host is commanded. Where memory runs out nothing changes.
+    /// Takes one event: a call is made, other memory is lent, or the host is commanded. Only where other memory is to be lent may
+    /// memory run out, and then nothing changes.
     pub fn take(&mut self, heap: Global, event: &Event<X::Command>) -> Result<Taken, AllocError>
-        ensures goes { IfOk result (λ t. GoesOn (process_of self.old) (world_of X.Host.view self.old)
+        ensures takes { IfOk result (λ t. Takes X.Host.view X.Host.makes X.Host.goes X.Controls.declines X.Controls.leaves
+            self.old event.now t self.new) }
+        ensures law { IfOk result (λ t. GoesOn (process_of self.old) (world_of X.Host.view self.old)
             (history_of (event.now ∷ []) (t ∷ [])) (world_of X.Host.view self.new)) }
-        ensures host { IfOk result (λ t. AtHost X.Host.view X.Host.goes X.Controls.declines X.Controls.leaves
-            event.now self.old.host t self.new.host) }
-        ensures belong { StillBelong (process_of self.old) X.Host.view X.Host.holds self.old self.new }
+        ensures sorted { Sorted X.Host.view X.Host.holds self.old.host → Sorted X.Host.view X.Host.holds self.new.host }
+        ensures belong { IfOk result (λ _. Belong X.Host.view X.Host.holds self.old self.new) }
+        ensures lends { IfErr result (λ _. lends event.now ≡ true) }
         ensures same { OnErr result (self.new ≡ self.old) }
         ensures process { process_of self.new ≡ process_of self.old }
     {
@@ -106,52 +110,39 @@ impl<X: Controls> Competition<X> {
         })
     }
 
-    // Takes one event and keeps what came of it: there is a place for that before anything is done.
-    fn take_into(
+    /// Takes the events of a list, one after another, and tells of each in its place, as far as the places go. Where memory runs
+    /// out it stops before an event that lends other memory.
+    pub fn replay(
         &mut self,
         heap: Global,
-        event: &Event<X::Command>,
-        taken: &mut Vec<Taken>,
-    ) -> Result<(), AllocError>
-        ensures goes { OnOk result ((t : Taken) × (vec_items taken.new ≡ vec_items taken.old ++ t ∷ [])
-            × AtHost X.Host.view X.Host.goes X.Controls.declines X.Controls.leaves event.now self.old.host t self.new.host
-            × GoesOn (process_of self.old) (world_of X.Host.view self.old)
-            (history_of (event.now ∷ []) (t ∷ [])) (world_of X.Host.view self.new)) }
-        ensures same { OnErr result (self.new ≡ self.old) }
-        ensures kept { OnErr result (vec_items taken.new ≡ vec_items taken.old) }
+        events: &[Event<X::Command>],
+        places: &mut [Taken],
+    ) -> Replayed
+        ensures takes { TakesAll X.Host.view X.Host.makes X.Host.goes X.Controls.declines X.Controls.leaves
+            self.old (zip events.now (take result.taken places.new)) self.new }
+        ensures law { GoesOn (process_of self.old) (world_of X.Host.view self.old)
+            (history_of events.now (take result.taken places.new)) (world_of X.Host.view self.new) }
+        ensures sorted { Sorted X.Host.view X.Host.holds self.old.host → Sorted X.Host.view X.Host.holds self.new.host }
+        ensures belong { Belong X.Host.view X.Host.holds self.old self.new }
+        ensures rest { drop result.taken places.new ≡ drop result.taken places.old }
+        ensures all { result.stopped ≡ None → result.taken ≡ min (length events.now) (length places.old) }
+        ensures out { (result.stopped ≢ None) → RanOut events.now (length places.old) result.taken }
         ensures process { process_of self.new ≡ process_of self.old }
     {
-        taken.reserve(1)?;
-        taken.push_reserved(self.take(heap, event)?);
-        Ok(())
-    }
-
-    /// Takes the events of a list, one after another, and tells what came of each. Where memory runs out it stops before the
-    /// next event.
-    pub fn replay(&mut self, heap: Global, events: &[Event<X::Command>]) -> Replayed
-        ensures goes { GoesOn (process_of self.old) (world_of X.Host.view self.old)
-            (history_of events.now (vec_items result.taken)) (world_of X.Host.view self.new) }
-        ensures host { Along X.Host.view X.Host.goes X.Controls.declines X.Controls.leaves self.old.host
-            (zip events.now (vec_items result.taken)) self.new.host }
-        ensures belong { StillBelong (process_of self.old) X.Host.view X.Host.holds self.old self.new }
-        ensures all { result.stopped ≡ None → length (vec_items result.taken) ≡ length events.now }
-        ensures some { length (vec_items result.taken) ≤ length events.now }
-        ensures left { (result.stopped ≢ None) → length (vec_items result.taken) < length events.now }
-        ensures process { process_of self.new ≡ process_of self.old }
-    {
-        let mut taken = Vec::new(heap);
-        // places for all of them at once, where there is so much memory; if there is not, each takes its own
-        taken.reserve(events.len()).ok();
-        for event in events {
-            if let Err(error) = self.take_into(heap, event, &mut taken) {
-                return Replayed {
-                    taken,
-                    stopped: Some(error),
-                };
+        let most = events.len().min(places.len());
+        for i in 0..most {
+            match self.take(heap, &events[i]) {
+                Ok(taken) => places[i] = taken,
+                Err(error) => {
+                    return Replayed {
+                        taken: i,
+                        stopped: Some(error),
+                    };
+                }
             }
         }
         Replayed {
-            taken,
+            taken: most,
             stopped: None,
         }
     }

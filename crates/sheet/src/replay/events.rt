@@ -1,11 +1,12 @@
 // An event: a call, other memory, or a command for the host.
-ghost use Rattle.std.specs.Prelude.{◌≡◌, IfOk, OnErr};
+ghost use Rattle.std.specs.Prelude.{◌≡◌, true, IfOk, IfErr, OnErr};
 ghost use Rattle.values.specs.declared.Answer.TheVariants.{Done};
-ghost use Rattle.host.specs.Commands.{Left};
+ghost use Rattle.host.specs.Commands.{Controlled};
 ghost use Rattle.model.specs.Run.{lend, control};
-ghost use Rattle.sheet.specs.Happenings.{happening, command_of, refused, Steered};
+ghost use Rattle.sheet.specs.Asked.{event_asks};
+ghost use Rattle.sheet.specs.Happenings.{happening, command_of, refused_by, lends};
 ghost use Rattle.sheet.specs.Lent.{zeros};
-ghost use Rattle.sheet.specs.Runs.{world_of, process_of, Does};
+ghost use Rattle.sheet.specs.Runs.{world_of, process_of, Does, HostAfter};
 
 use super::Competition;
 use crate::events::{Event, Sizes};
@@ -30,7 +31,8 @@ impl<X: Controls> Competition<X> {
     fn control(&mut self, command: &X::Command) -> Option<Fault>
         ensures does { Does (process_of self.old) (world_of X.Host.view self.old) (control (X.Host.view self.new.host).shut)
             Done (world_of X.Host.view self.new) }
-        ensures left { Left (X.Controls.declines self.old.host command.now) X.Controls.leaves self.old.host command.now self.new.host }
+        ensures left { Controlled (X.Controls.declines self.old.host command.now) X.Controls.leaves
+            self.old.host command.now self.new.host }
         ensures refused { result ≡ X.Controls.declines self.old.host command.now }
         ensures process { process_of self.new ≡ process_of self.old }
     {
@@ -45,9 +47,11 @@ impl<X: Controls> Competition<X> {
     ) -> Result<(Answer, Option<Fault>), AllocError>
         ensures does { IfOk result (λ a. Does (process_of self.old) (world_of X.Host.view self.old)
             (happening (X.Host.view self.new.host).shut event.now) a.0 (world_of X.Host.view self.new)) }
-        ensures steered { IfOk result (λ _. Steered X.Host.goes X.Controls.declines X.Controls.leaves
-            self.old.host (command_of event.now) self.new.host) }
-        ensures refused { IfOk result (λ a. a.1 ≡ refused X.Controls.declines self.old.host (command_of event.now)) }
+        ensures host { IfOk result (λ _. HostAfter X.Host.view X.Host.makes X.Host.goes X.Controls.declines X.Controls.leaves
+            self.old.host (command_of event.now) (event_asks (process_of self.old) (world_of X.Host.view self.old)
+            (happening (X.Host.view self.new.host).shut event.now)) self.new.host) }
+        ensures refused { IfOk result (λ a. a.1 ≡ refused_by X.Controls.declines self.old.host (command_of event.now)) }
+        ensures lends { IfErr result (λ _. lends event.now ≡ true) }
         ensures same { OnErr result (self.new ≡ self.old) }
         ensures process { process_of self.new ≡ process_of self.old }
     {

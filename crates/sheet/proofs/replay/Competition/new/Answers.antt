@@ -1,7 +1,7 @@
--- At first no row is known anywhere.
-use Rattle.sheet.proofs.Belonging.{first_belong}
+-- A fresh host has no row anywhere.
+use Rattle.host.proofs.Sorted.{sorted_fresh}
 use Rattle.sheet.proofs.replay.Competition.new.Goals as goal
 
-pub returns-clause-belong : goal.returns-clause-belong
-returns-clause-belong g c serial is fresh =
-    first_belong g.X.Host.view g.X.Host.holds g.met.X.Host.sound g.met.X.Host.empty (record { sheet = c.args.sheet; host = c.args.host; memory = c.args.memory }) serial is fresh
+pub returns-clause-sorted : goal.returns-clause-sorted
+returns-clause-sorted g c fresh =
+    sorted_fresh g.X.Host.view g.X.Host.holds g.met.X.Host.sound g.met.X.Host.empty c.args.host fresh

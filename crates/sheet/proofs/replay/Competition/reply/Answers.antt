@@ -8,6 +8,3 @@ returns-clause-does g c =
     let x = c.args.self.now in
     rw c.done.ensures (replies_decides (chart_of x.sheet) (sheet_of x.sheet) (g.X.Host.view x.host) x.memory c.args.place
     c.deref_mut.ensures.value c.reply.ensures c.reply.auto.buffer)
-
-pub returns-clause-goes : goal.returns-clause-goes
-returns-clause-goes g c = g.met.X.Host.stays c.args.self.now.host

@@ -1,9 +1,9 @@
-use Rattle.std.proofs.Common.{◌≡◌, ℕ, ◌+◌, ◌≤◌, [], ◌∷◌, map, Bool, true, false, sym, subst, ap, ◌∙◌, rules, arith}
+use Rattle.std.proofs.Common.{◌≡◌, ℕ, ◌+◌, ◌≤◌, [], ◌∷◌, map, Bool, true, false, refl, sym, subst, ap, ◌∙◌, rules, arith}
 use Rattle.values.specs.declared.RowState.TheVariants.{Running}
 use Rattle.std.proofs.lemmas.Bool.{false_from_ne_true}
 use Rattle.std.proofs.lemmas.List.{map-append}
 use Rattle.host.specs.Keys.{key_of}
-use Rattle.host.specs.Made.{Made}
+use Rattle.host.specs.Made.{Made, none}
 use Rattle.host.specs.declared.calls.Call.TheVariants.{Drop}
 use Rattle.host.proofs.Made.{made_more}
 use Rattle.model.specs.Rows.{in_state}
@@ -29,6 +29,9 @@ unwrap-requires g c =
     let may = c.requires n (sym (is n) ∙ next.1) in
     let none = still_droppable runs n v (g.X.Host.view c.loop-row.host) here may in
     search rules
+
+pub loop-row-init : goal.loop-row-init
+loop-row-init g c = record { dropped = refl; made = none; goes = g.met.X.Host.stays c.args.host.now; within = omega arith }
 
 pub loop-row-preserved : goal.loop-row-preserved
 loop-row-preserved g c =
