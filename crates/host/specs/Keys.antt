@@ -13,7 +13,7 @@ key_of number = number
 abbrev pub rows_most : ℕ
 rows_most = 256
 
--- a host knows rows 1 to 256 and no others
+-- the keys under which a host can know a row: 1 to 256
 abbrev pub is_row : RowKey → Bool
 is_row row = nat_le 1 row && nat_le row rows_most
 

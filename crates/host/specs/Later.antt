@@ -19,7 +19,7 @@ pub data Path : HostState → HostState → Type 0 where
   stays : {s : HostState} → Path s s
   turns : {s t u : HostState} → Path s t → Turn t u → Path s u
 
--- w is what a host that showed v may show later: rows go only by those turns, room never comes back, entries never change
+-- w is what a host that showed v may show later: each row came to its state by such turns, no room has grown, each entry stayed
 pub record Later (v w : View) : Type 0 where
   pub states : (row : RowKey) → Path (v.state row) (w.state row)
   pub room : (k : Kind) → w.room k ≤ v.room k

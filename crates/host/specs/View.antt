@@ -11,8 +11,8 @@ use Rattle.values.specs.declared.Layer.TheVariants.{Host}
 use Rattle.values.specs.declared.Fault.{Fault}
 use Rattle.host.specs.Keys.{RowKey, is_row, same_row, place_of}
 
--- whether the host is shut, how many more rows of each kind it takes, the state of each row,
--- and the entry of each row that it knows
+-- All that callers can learn of a host. `room` counts, by kind, the rows that can still begin; `entry` gives none for an
+-- unknown row
 pub record View : Type 0 where
   pub shut : Bool
   pub room : Kind → ℕ
@@ -22,12 +22,12 @@ pub record View : Type 0 where
 abbrev pub is_unknown : HostState → Bool
 is_unknown s = same_host_state s Unknown
 
--- a number that is no row's is unknown, and a row is known exactly if it has an entry
+-- a key that is no row's is always unknown; a row has an entry exactly if it is known
 pub record Sound (v : View) : Type 0 where
   pub outside : (row : RowKey) → is_row row ≡ false → v.state row ≡ Unknown
   pub entries : (row : RowKey) → is_some (v.entry row) ≡ not (is_unknown (v.state row))
 
--- a fresh host, shut or open and with any room, knows no row
+-- a fresh host: all rows are unknown to it; whether it is shut, and its room, do not matter
 abbrev pub Fresh : View → Type 0
 Fresh v = (row : RowKey) → v.state row ≡ Unknown
 
@@ -35,11 +35,11 @@ Fresh v = (row : RowKey) → v.state row ≡ Unknown
 abbrev pub put : {X : Type 0} → (RowKey → X) → RowKey → X → RowKey → X
 put f row x n = cond (same_row n row) x (f n)
 
--- one row's state turned, and nothing else
+-- one row in another state
 abbrev pub moved : HostState → View → RowKey → View
 moved to v row = record { shut = v.shut; room = v.room; state = put v.state row to; entry = v.entry }
 
--- a row begun: open, with its entry, and room for one row less of that kind
+-- a row begun: it is open and has this entry, and the room for the entry's kind is one smaller
 abbrev pub begun : View → RowKey → Entry → View
 begun v row e = record {
   shut = v.shut;
@@ -48,14 +48,14 @@ begun v row e = record {
   entry = put v.entry row (Some e);
 }
 
--- the checks of commit, drop and undo, in their order
+-- the checks of a call that turns a row from a state (commit, drop, undo), first to last
 abbrev pub move_checks : HostState → View → RowKey → List (Option Fault)
 move_checks from v row =
     bad v.shut ShutHost Host (place_of row)
     ∷ bad (not (is_row row && same_host_state (v.state row) from)) OtherState Host (place_of row)
     ∷ []
 
--- the checks of begin, in their order
+-- the checks of begin, first to last
 abbrev pub begin_checks : View → RowKey → Kind → List (Option Fault)
 begin_checks v row k =
     bad v.shut ShutHost Host (place_of row)
@@ -77,11 +77,11 @@ pub record Moves (from to : HostState) (before : View) (row : RowKey) (r : Resul
 abbrev pub shut_as : Bool → View → View
 shut_as b v = record { shut = b; room = v.room; state = v.state; entry = v.entry }
 
--- what may happen to a host between two calls: only whether it is shut differs
+-- what may become of a host between two calls: it may be shut or opened
 abbrev pub Between : View → View → Type 0
 Between v w = w ≡ shut_as w.shut v
 
--- an open host that knows no row and takes so many rows of one kind and none of any other
+-- a new book: open and without rows, with so much room for its kind, and with none for another
 abbrev pub blank : Kind → ℕ → View
 blank kind most = record {
   shut = false;

@@ -11,11 +11,12 @@ use Rattle.host.specs.declared.calls.Call.TheVariants.{Begin, Commit, Drop, Undo
 use Rattle.host.specs.declared.switch.Switch.{Switch}
 use Rattle.host.specs.declared.pair.Pair.{Pair}
 
--- a switch that is off shuts; everything else is the host below
+-- what a switch shows: the host below, shut where the switch is off
 abbrev pub switched : Bool → View → View
 switched on v = shut_as (cond on v.shut true) v
 
--- two hosts as one: one kind goes to the first, all others to the second; a row is the first's if it is known there
+-- two hosts shown as one, which is shut if either is: room is asked of the first for one kind, and of the second for any other;
+-- state and entry of a row are asked of the first, and where it is unknown there, of the second
 abbrev pub joined : Kind → View → View → View
 joined kind a b = record {
   shut = a.shut || b.shut;
@@ -43,7 +44,7 @@ pair_view first_view second_view p = joined p.kind (first_view p.first) (second_
 abbrev pub SwitchHolds : {X : Type 0} → (X → Known → Type 0) → Switch X → Known → Type 0
 SwitchHolds holds s known = holds s.inner known
 
--- a pair holds, of given rows, those of its kind in its first host and all others in its second
+-- a pair holds given rows: its first host has those of its kind, its second the rest of them
 abbrev pub PairHolds : {X Y : Type 0} → (X → Known → Type 0) → (Y → Known → Type 0) → Pair X Y → Known → Type 0
 PairHolds first second p known =
     first p.first (only (is_kind p.kind) known) × second p.second (only (is_other p.kind) known)

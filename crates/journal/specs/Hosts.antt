@@ -16,7 +16,7 @@ use Rattle.ledger.specs.Fees.{standing_sum}
 use Rattle.ledger.specs.declared.book.Ledger.{Ledger}
 use Rattle.journal.specs.Calls.{Turn, Command}
 
--- fees go to the ledger and everything else to the score book, each under a switch of its own
+-- the program's host: a ledger with a switch over it for fees, and for all other rows a score book with a switch over it
 abbrev pub Hosts : Type 0
 Hosts = Pair (Switch Ledger) (Switch ScoreBook)
 

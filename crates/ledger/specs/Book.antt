@@ -20,7 +20,7 @@ lines_of b = b.table.used
 abbrev pub rest_of : Ledger → List Line
 rest_of b = b.table.rest
 
--- how many rows a table of so many lines takes: a third of its first 768 lines, rounded down
+-- how many rows can begin in a table of so many lines: each has three set aside, of 768 at most
 abbrev pub rows_in : ℕ → ℕ
 rows_in len = min lines_most len / 3
 
@@ -48,7 +48,7 @@ LedgerMakes b (Commit row) (Ok u) later = Turned Post b later row
 LedgerMakes b (Drop row) (Ok u) later = Turned Release b later row
 LedgerMakes b (Undo row) (Ok u) later = Turned Contra b later row
 
--- what calls can make of a ledger: the old lines are a prefix of the new ones, which stand in place of the first unused ones
+-- what calls can make of a ledger: it begins with the lines that it had, and new ones stand in place of the first unused ones
 pub record LedgerGoes (before later : Ledger) : Type 0 where
   pub lines : IsPrefix (lines_of before) (lines_of later)
   pub rest : RestFrom (length (lines_of before)) (length (lines_of later)) (rest_of before) (rest_of later)

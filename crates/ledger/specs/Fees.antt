@@ -24,7 +24,7 @@ marked Release n = pos 0
 abbrev pub worth : Line → ℤ
 worth l = marked l.mark (number_of l.entry.number)
 
--- posts less contras
+-- the balance by the lines: what was posted, without what contras took back
 abbrev pub posted : List Line → ℤ
 posted ls = fold (λ sum l. sum +ℤ worth l) (pos 0) ls
 

@@ -12,7 +12,7 @@ use Rattle.model.specs.Rows.{Rows, no_rows, with_states, marked, added, idle}
 use Rattle.model.specs.Rollback.{strikes}
 use Rattle.model.specs.Run.{Event, start, end, abort, undo, finish, park, resume, listing, reply, lend, control, History}
 
--- lines have what rows have; `turned` are the lines that the last abort turned undone, in the order in which it did
+-- the lines are rows like a sheet's; `turned` lists the lines that the last abort turned undone, in the order in which it did
 pub record Book : Type 0 where
   pub lines : Rows
   pub turned : List ℕ
@@ -23,7 +23,7 @@ no_lines = record { lines = no_rows; turned = [] }
 abbrev pub with_lines : Book → Rows → Book
 with_lines b r = record { lines = r; turned = b.turned }
 
--- a line's state in an abort, before lines are undone: a running one is dropped, an idle struck one passed over
+-- a line's state in an abort, just before the lines that are to be undone are turned
 abbrev pub set_aside : RowState → Bool → Bool → RowState
 set_aside Absent struck idle = Absent
 set_aside Running struck idle = Dropped
@@ -38,7 +38,7 @@ abbrev pub each_undone : List ℕ → (ℕ → RowState) → ℕ → RowState
 each_undone [] st = st
 each_undone (k ∷ ks) st = each_undone ks (at_put st k Undone)
 
--- the struck lines that are not idle, the highest first
+-- the lines that an abort turns undone, by falling number: those that are struck and not idle
 abbrev pub to_undo : Chart → Rows → Mode → List ℕ
 to_undo c r m = down_from (r.count + 1) (λ k. strikes c r m k && not (idle c r k))
 
@@ -55,7 +55,7 @@ accepted (Ticket t) = true
 accepted (Listed n m) = true
 accepted (Declined f) = false
 
--- an accepted start, end or abort changes the book; no other and no declined call does
+-- what an accepted call makes of the book: start, end and abort write in it, and the others leave it alone
 abbrev pub noted : Chart → Book → Event → Book
 noted c b (start k fs e) = with_lines b (added b.lines k fs e)
 noted c b (end k) = with_lines b (marked b.lines k Committed)

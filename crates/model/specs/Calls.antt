@@ -58,8 +58,8 @@ unfit_at c r k fs i =
     not (in_state r Committed (slice_index fs i) && is_arrow c (r.step (slice_index fs i)) k)
     || any_below i (λ j. nat_eq (r.step (slice_index fs j)) (r.step (slice_index fs i)))
 
--- row v is live, follows row f by one arrow, and uses its exit: any such row does where the exit is "one", and a row
--- of step k where it is "all"
+-- row v uses the exit of row f for a row of step k: it is live and has f as a predecessor, and the exit is "one", or v is of step k
+-- too
 abbrev pub uses : Chart → Rows → ℕ → ℕ → ℕ → Bool
 uses c r k f v = (live (r.state v) && has f (r.preds v)) && by_flow (step_at c (r.step f)).exit true (r.step v == k)
 
@@ -67,7 +67,7 @@ uses c r k f v = (live (r.state v) && has f (r.preds v)) && by_flow (step_at c (
 abbrev pub used_at : Chart → Rows → ℕ → List ℕ → ℕ → Bool
 used_at c r k fs i = any_below (r.count + 1) (uses c r k (slice_index fs i))
 
--- the entry is of the step's kind, and empty or in range
+-- the entry has the step's kind, and its number, if there is one, is in the range of that kind
 abbrev pub lawful : Step → Entry → Bool
 lawful st e = same_kind e.kind st.kind && in_range e.kind e.number
 
@@ -95,7 +95,7 @@ end_fault s v k =
 
 -- ── abort ──
 
--- the failing row does not run, or no row is live
+-- partial: the failing row does not run; complete: there is nothing to roll back, as no row is live
 abbrev pub mode_check : Rows → Mode → Option Fault
 mode_check r Complete = bad (not (any_live r)) NothingLive OfSheet 0
 mode_check r (Partial f) = row_check r Running f

@@ -37,10 +37,10 @@ abbrev pub by_flow : {X : Type 0} → Flow → X → X → X
 by_flow One x y = x
 by_flow All x y = y
 
--- how many arrows lead into step k
+-- how many arrows enter step k
 abbrev pub arrows_into : Chart → ℕ → ℕ
 arrows_into c k = count_by (λ a. nat_eq a.to k) c.1
 
--- how many predecessors a row of step k wants: none for step 1, else one, or one for each arrow into the step
+-- how many predecessors a row of step k has to have: for step 1 none; else, by its entry, 1 or as many as arrows enter the step
 abbrev pub wanted : Chart → ℕ → ℕ
 wanted c k = cond (k == 1) 0 (by_flow (step_at c k).entry 1 (arrows_into c k))

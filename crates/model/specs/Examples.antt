@@ -64,7 +64,7 @@ competition = record {
 abbrev pub chart_of : Plan → Chart
 chart_of p = (map (λ s. s.step) p.steps, p.arrows)
 
--- five steps in a row, the third without counterpart
+-- five steps, each followed by the next; a row of the third cannot be compensated
 abbrev pub chain : Chart
 chain = (saved ∷ plain ∷ without_counterpart ∷ plain ∷ plain ∷ [], arrow 1 2 ∷ arrow 2 3 ∷ arrow 3 4 ∷ arrow 4 5 ∷ [])
 
@@ -83,7 +83,7 @@ full = score (Some (negsuc 11))
 abbrev pub fee : Entry
 fee = record { kind = Fee; number = Some (pos 2500) }
 
--- rows 1 to 5 follow the steps, with full entries but for the card's, and row 5 runs
+-- a row for each step, of which the last is left running; the card's entry is given, and each other has a number
 abbrev pub competing : Entry → List Event
 competing card =
     start 1 [] fee ∷ end 1 ∷ start 2 (1 ∷ []) full ∷ start 3 (1 ∷ []) card ∷ end 3 ∷ end 2
@@ -190,7 +190,7 @@ table =
       example = rolls_back (record { process = chart_of competition; before = competing full; failing = 5; next = [] });
       expected = came_to (competition_rolled_back [] no_bytes);
     }
-    -- both rows undone, and the rollback finished: the reply
+    -- the same rollback carried on: two undos, finish, and a reply
     ∷ record {
       example = rolls_back
           (record { process = chart_of competition; before = competing full; failing = 5; next = undone_and_told });
@@ -214,7 +214,7 @@ table =
         told = no_bytes;
       });
     }
-    -- a savepoint met forward is struck
+    -- a savepoint is struck, as it is after a row of the backward part
     ∷ record {
       example = rolls_back (record { process = fork; before = forked; failing = 5; next = [] });
       expected = came_to (record {
@@ -226,7 +226,7 @@ table =
         told = no_bytes;
       });
     }
-    -- a savepoint as the only predecessor: nothing is due, and finish is accepted
+    -- no row lies between the failing one and a savepoint: the rollback has nothing to undo
     ∷ record {
       example = rolls_back (record {
         process = chain;

@@ -21,19 +21,19 @@ abbrev pub Ascends : {X : Type 0} → (X → X → Type 0) → List X → Type 0
 Ascends R [] = Unit {0}
 Ascends {X} R (x ∷ xs) = ((y : X) → In y xs → R x y) × Ascends R xs
 
--- both ends are rows of the graph, and a path leads from `to` to `from` with only passed-over rows between
+-- an arrow of the graph: on the sheet its two rows are joined by a path from `to` to `from` of which all other rows are passed over
 pub record IsArrow (s : Sheet) (a : RowArrow) : Type 0 where
   pub later : in_graph s a.from ≡ true
   pub earlier : in_graph s a.to ≡ true
   pub path : Through s.rows a.to a.from
 
--- a restart point: a savepoint that stopped the way back and is still committed; or 0, the start, where the way back came
--- to the first step or the abort was complete
+-- a restart point: of a complete abort 0, the start; of a partial one 0 if the way back came there, and each committed savepoint
+-- where it ended
 abbrev pub IsRestart : Chart → Rows → Mode → ℕ → Type 0
 IsRestart c r Complete p = p ≡ 0
 IsRestart c r (Partial f) p = ((p ≡ 0) × FromStart c r f) ⊎ Stopped c r f p
 
--- a listing has exactly the arrows and the restart points, each once, rising
+-- the two lists of a listing: each has what it is to have and nothing else, sorted and without repetition
 pub record ListingIs (c : Chart) (s : Sheet) : Type 0 where
   pub arrows_are : (a : RowArrow) → In a (graph_arrows s) → IsArrow s a
   pub arrows_all : (a : RowArrow) → IsArrow s a → In a (graph_arrows s)
@@ -42,7 +42,7 @@ pub record ListingIs (c : Chart) (s : Sheet) : Type 0 where
   pub points_all : (p : ℕ) → IsRestart c s.rows s.mode p → In p (restart_points c s.rows s.mode)
   pub points_rise : Ascends ◌<◌ (restart_points c s.rows s.mode)
 
--- outside the forward phase no event changes the listing, so that it is the same from abort to finish
+-- no event changes the listing of a sheet that is undoing or parked; so it stays as it is until the rollback is finished
 abbrev pub ListingStays : Chart → World → Event → Type 0
 ListingStays c w e =
     (w.sheet.phase ≢ Forward)

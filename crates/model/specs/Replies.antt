@@ -15,8 +15,7 @@ fields_of bytes = unpack reply_widths (pack reply_bytes bytes)
 abbrev pub step_field : List ℕ → ℕ → ℕ
 step_field bytes k = slice_index (fields_of bytes) (k + 3)
 
--- n is what may be told of step k: 7 of a private step; else the number of the state of its highest row, or 0 where it
--- has no row
+-- n is what may be told of step k, by whether it is private, has no row, or has a highest one
 pub data Tells (c : Chart) (r : Rows) (k : ℕ) : ℕ → Type 0 where
   private_step : (step_at c k).private ≡ true → Tells c r k 7
   no_row : (step_at c k).private ≡ false → ((j : ℕ) → 1 ≤ j → j ≤ r.count → r.step j ≢ k) → Tells c r k 0

@@ -12,11 +12,11 @@ abbrev pub highest_below : (ℕ → ℕ) → (ℕ → RowState) → ℕ → ℕ 
 highest_below steps states k zero = 0
 highest_below steps states k (suc n) = cond (steps n == k) (row_state_number (states n)) (highest_below steps states k n)
 
--- what a reply shows of step k: 7 for a private step, else the state of its highest row
+-- the field of step k in a reply; that of a private step is 7
 abbrev pub shown : Chart → Sheet → ℕ → ℕ
 shown c s k = cond (step_at c k).private 7 (highest_below s.rows.step s.rows.state k (s.rows.count + 1))
 
--- form number, phase, steps less 1, rollback number, a field for each of steps 1 to 64, and zeros
+-- the widths of the fields: of form number, phase, number of steps and rollback number, then of each step, then of the zeros
 abbrev pub reply_widths : List ℕ
 reply_widths = 8 ∷ 2 ∷ 6 ∷ 16 ∷ (replicate 64 3 ++ 32 ∷ [])
 

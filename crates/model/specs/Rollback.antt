@@ -26,12 +26,12 @@ after r from v = within r.preds r.count from v
 abbrev pub uncut : Chart → Rows → ℕ → List ℕ
 uncut c r v = filter (λ w. not (is_savepoint c r w)) (r.preds v)
 
--- u is in the backward part of the failing row f: a predecessor, or one of theirs in turn, stopping short of savepoints
+-- u is in the backward part of the failing row f: it is reached from f by going back to predecessors none of which is a savepoint
 abbrev pub backward : Chart → Rows → ℕ → ℕ → Bool
 backward c r f u = within (uncut c r) r.count (nat_eq u) f
 
--- the struck set, which is the set to compensate: every committed row that is in the backward part or after it;
--- all committed rows where the abort is complete
+-- an abort strikes row u, which is then in the set to compensate. Only committed rows are struck: in a complete abort each, in a
+-- partial one those of the backward part and those after a row of it
 abbrev pub strikes : Chart → Rows → Mode → ℕ → Bool
 strikes c r Complete u = in_state r Committed u
 strikes c r (Partial f) u = in_state r Committed u && (backward c r f u || after r (backward c r f) u)
@@ -53,7 +53,7 @@ fallen_states c r m k = fallen (r.state k) (strikes c r m k) (idle c r k)
 abbrev pub over_passed : Rows → ℕ → ℕ → List ℕ
 over_passed r v x = cond (x == v || in_state r PassedOver x) (r.preds x) []
 
--- a path leads from u to v with only passed-over rows between
+-- a path leads from u to v on which each row but these two is passed over
 abbrev pub linked : Rows → ℕ → ℕ → Bool
 linked r u v = within (over_passed r v) r.count (nat_eq u) v
 
@@ -61,7 +61,7 @@ linked r u v = within (over_passed r v) r.count (nat_eq u) v
 abbrev pub behind : Chart → Rows → ℕ → ℕ → Bool
 behind c r f x = x == f || backward c r f x
 
--- w is a savepoint that stopped the way back from f, and is still committed
+-- the way back from f ended before w, a savepoint, and w is committed
 abbrev pub stopped : Chart → Rows → ℕ → ℕ → Bool
 stopped c r f w =
     is_savepoint c r w && (in_state r Committed w && any_below (r.count + 1) (λ x. behind c r f x && has w (r.preds x)))

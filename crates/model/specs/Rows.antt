@@ -48,7 +48,7 @@ is_row r k = nat_le 1 k && nat_le k r.count
 abbrev pub in_state : Rows → RowState → ℕ → Bool
 in_state r st k = same_state (r.state k) st
 
--- a live row is running or committed
+-- the states of a live row
 abbrev pub live : RowState → Bool
 live st = same_state st Running || same_state st Committed
 
@@ -58,7 +58,7 @@ any_live r = any_below (r.count + 1) (λ k. live (r.state k))
 abbrev pub is_savepoint : Chart → Rows → ℕ → Bool
 is_savepoint c r k = (step_at c (r.step k)).savepoint
 
--- there is nothing to compensate: the step has no counterpart, or is public and the entry is empty
+-- an idle row leaves nothing to compensate: its step offers no way to, or it has an empty entry in a step that is public
 abbrev pub idle : Chart → Rows → ℕ → Bool
 idle c r k =
     not (step_at c (r.step k)).counterpart || (not (step_at c (r.step k)).private && not (is_some (r.entry k).number))

@@ -45,7 +45,7 @@ with_phase s p = record {
   mode = s.mode;
 }
 
--- the sheet after an abort: running rows are dropped, idle struck rows passed over, other struck rows due
+-- the sheet after an abort: rows have the states that `fallen_states` names, and one more rollback is under way
 abbrev pub aborted : Chart → Sheet → Mode → Sheet
 aborted c s m = record {
   rows = with_states s.rows (fallen_states c s.rows m);
@@ -60,15 +60,15 @@ aborted c s m = record {
 abbrev pub ticket_of : Sheet → TicketNumber
 ticket_of s = record { serial = s.serial; rollback = s.rollback }
 
--- a row of the compensating graph: the current rollback made it due
+-- a row of the compensating graph: the last abort made it due, and it is so still, or undone by now
 abbrev pub in_graph : Sheet → ℕ → Bool
 in_graph s v = s.rolled v == s.rollback && (in_state s.rows Due v || in_state s.rows Undone v)
 
--- the arrows from v: to each row of the graph from which a path leads to v with only passed-over rows between
+-- the arrows from v: to each row of the graph that is linked to v
 abbrev pub arrows_from : Sheet → ℕ → List RowArrow
 arrows_from s v =
     map (λ u. record { from = v; to = u }) (all_below (s.rows.count + 1) (λ u. in_graph s u && linked s.rows u v))
 
--- the arrows of the compensating graph, rising by from, then by to
+-- all arrows of the compensating graph, sorted by the row that they come from and then by the other
 abbrev pub graph_arrows : Sheet → List RowArrow
 graph_arrows s = each_below (s.rows.count + 1) (λ v. cond (in_graph s v) (arrows_from s v) [])

@@ -33,7 +33,7 @@ pub record Reading (xs : List ℕ) (r : Result Process Fault) : Type 0 where
   -- the first fault that stands is the answer
   pub faults : (f : Fault) → FirstFault xs f → r ≡ Err f
 
--- the memory that reading wants: a column of 257 bytes, and a line of 256 numbers
+-- whether a column and a line of these lengths are as long as reading wants them
 abbrev pub enough : ℕ → ℕ → Bool
 enough column line = nat_le 257 column && nat_le 256 line
 
@@ -41,7 +41,7 @@ enough column line = nat_le 257 column && nat_le 256 line
 abbrev pub short_memory : Fault
 short_memory = record { cause = ShortMemory; layer = Reader; place = 0 }
 
--- what is left in the column: as found where the memory is too short, else zeros in its first 257 bytes
+-- what reading leaves of the column: the same bytes, if the memory was too short; else its marks are zeros
 abbrev pub Left : Bool → List ℕ → List ℕ → Type 0
 Left true before after = Wiped before after
 Left false before after = after ≡ before

@@ -1,4 +1,4 @@
--- Fields packed by bits, the most significant first. Assumes nothing.
+-- Numbers that are made of fields of bits, of which the first is the highest. Assumes nothing.
 use Rattle.std.specs.Prelude.{ℕ, ◌+◌, ◌*◌, ◌/◌, ◌%◌, ◌^◌, ◌<◌, List, [], ◌∷◌}
 
 abbrev pub total : List ℕ → ℕ

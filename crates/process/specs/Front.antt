@@ -1,4 +1,4 @@
--- The first fault from left to right: all that stands before it is good. Assumes nothing.
+-- The fault that stands first in the bytes: all before it is good. Assumes nothing.
 use Rattle.std.specs.Prelude.{◌≡◌, ℕ, ◌-◌, ◌<◌, ◌≤◌, List, [], ◌∷◌, ◌++◌, length, Some, None, Option}
 use Rattle.values.specs.Checks.{first_fault}
 use Rattle.values.specs.declared.Cause.TheVariants.{WrongStep}

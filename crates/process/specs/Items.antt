@@ -1,4 +1,4 @@
--- What the reader hands out, by the records that it stands for. Assumes nothing.
+-- What the reader gives, by the records that it stands for. Assumes nothing.
 use Rattle.std.specs.Prelude.{◌≡◌, ℕ, List, Some, None, Ok, Err, Option, Result}
 use Rattle.values.specs.declared.Fault.{Fault}
 use Rattle.process.specs.declared.cursor.Cursor.{Cursor}
@@ -8,7 +8,7 @@ use Rattle.process.specs.declared.parts.Item.TheVariants.{Header, Step, Arrow}
 use Rattle.process.specs.declared.reader.Reader.{Reader}
 use Rattle.process.specs.Reading.{Record, header, step, arrow, Got, next_of}
 
--- the record that an item hands out
+-- the record that an item is
 abbrev pub record_of : Item → Record
 record_of (Header n m) = header n m
 record_of (Step s name place) = step (record { step = s; name = name.now }) place

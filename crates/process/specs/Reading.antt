@@ -108,7 +108,7 @@ expected c =
 abbrev pub wrong : Bool → Cause → Cursor → Option Fault
 wrong b cause c = bad b cause Reader c.place
 
--- a record's checks, in their order: input short, form or spare bits, values
+-- the checks of a record, first to last: whether it is all there; its form number and spare bits; its values
 abbrev pub checks : Expected → List ℕ → Cursor → List (Option Fault)
 checks HeaderRecord xs c =
     wrong (nat_lt (length xs) 4) WrongLength c
@@ -210,8 +210,8 @@ pub data Scans : List ℕ → Cursor → Plan → Result Plan Fault → Type 0 w
 abbrev pub Scan : List ℕ → Result Plan Fault → Type 0
 Scan xs r = Scans xs start no_plan r
 
--- the answer for any bytes: the first fault from left to right; then the lowest step with too many arrows or
--- not reached; else the process
+-- the answer for any bytes: a fault of a record, if there is one; else of the lowest step that has too many arrows or is not
+-- reached; else the process
 pub data Answer : List ℕ → Result Plan Fault → Type 0 where
   faulty : {xs : List ℕ} {f : Fault} → Scan xs (Err f) → Answer xs (Err f)
   unfit : {xs : List ℕ} {p : Plan} {k : ℕ} → Scan xs (Ok p) → FirstUnfit p.arrows (length p.steps) k

@@ -16,7 +16,7 @@ abbrev pub Inside : ℕ → List Arrow → Type 0
 Inside n zs = (i : ℕ) → i < length zs
     → Within n (slice_index_or zs i no_arrow).from × Within n (slice_index_or zs i no_arrow).to
 
--- step k has at most 8 arrows out and 8 in, and is marked
+-- neither more than 8 arrows leave step k nor more than 8 enter it, and it is marked
 abbrev pub fine_by : List ℕ → List Arrow → ℕ → Bool
 fine_by marks zs k = nat_le (ends_at Tail zs k) 8 && (nat_le (ends_at Head zs k) 8 && marked marks k)
 

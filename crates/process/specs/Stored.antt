@@ -11,7 +11,7 @@ pub record Named : Type 0 where
   pub step : Step
   pub name : List ℕ
 
--- a process: its steps, numbered from 1, and its arrows
+-- a process; the first in the list of its steps is step 1
 pub record Plan : Type 0 where
   pub steps : List Named
   pub arrows : List Arrow
@@ -39,7 +39,7 @@ step_fields s =
     bit s.step.savepoint ∷ bit s.step.counterpart ∷ bit s.step.private
     ∷ flow_number s.step.entry ∷ flow_number s.step.exit ∷ kind_number s.step.kind ∷ length s.name ∷ 0 ∷ []
 
--- from and to, less 1, and spare
+-- the two steps, counted from 0, and spare bits
 abbrev pub arrow_fields : Arrow → List ℕ
 arrow_fields a = (a.from - 1) ∷ (a.to - 1) ∷ 0 ∷ []
 
@@ -79,7 +79,7 @@ pub record Placed (n : ℕ) (a : Arrow) : Type 0 where
   pub to_low : 2 ≤ a.to
   pub to_high : a.to ≤ n
 
--- the first comes before the second: by from, then by to
+-- the first comes before the second: by the step that it leaves, and else by the one that it enters
 abbrev pub Before : Arrow → Arrow → Type 0
 Before a b = (a.from < b.from) ⊎ ((a.from ≡ b.from) × (a.to < b.to))
 
@@ -122,7 +122,7 @@ pub record Leads (zs : List Arrow) (n j k : ℕ) : Type 0 where
 abbrev pub Reachable : List Arrow → ℕ → ℕ → Type 0
 Reachable zs n k = Reached (Leads zs n) (Start n (1 ∷ [])) k
 
--- step k has at most 8 arrows out and 8 in, and is reached
+-- neither more than 8 arrows leave step k nor more than 8 enter it, and it is reached
 pub record Fine (zs : List Arrow) (n k : ℕ) : Type 0 where
   pub out_few : ends_at Tail zs k ≤ 8
   pub in_few : ends_at Head zs k ≤ 8

@@ -11,11 +11,11 @@ use Rattle.rows.specs.States.{no_set}
 abbrev pub links_at : List RowSet → ℕ → RowSet
 links_at sets k = slice_index_or sets k no_set
 
--- the members from row `least` on are the rows from which a path leads to v with only passed-over rows between
+-- of the rows from `least` on, the members are those that are linked to v
 abbrev pub HasLinks : Rows → ℕ → ℕ → RowSet → Type 0
 HasLinks r least v links = (u : ℕ) → least ≤ u → contains links u ≡ linked r u v
 
--- those members that are among some rows are those of these rows from which such a path leads
+-- of some rows, the members are those that are linked to v
 abbrev pub LinksAmong : Rows → RowSet → ℕ → RowSet → Type 0
 LinksAmong r rows v links = (u : ℕ) → contains rows u ≡ true → contains links u ≡ linked r u v
 

@@ -13,7 +13,7 @@ use Rattle.scorebook.specs.declared.records.Record.{Record}
 use Rattle.scorebook.specs.declared.book.ScoreBook.{ScoreBook}
 use Rattle.scorebook.specs.Records.{booked, turned, opened, without_state}
 
--- the records in use, in the order of their beginning
+-- the records in use, the oldest first
 abbrev pub records_of : ScoreBook → List Record
 records_of b = b.table.used
 
@@ -21,7 +21,7 @@ records_of b = b.table.used
 abbrev pub rest_of : ScoreBook → List Record
 rest_of b = b.table.rest
 
--- how many more records may be used: only the first 256 of the table are
+-- how many of the table's first 256 records are not in use
 abbrev pub free_of : ScoreBook → ℕ
 free_of b = min rows_most (capacity_of b.table) - length b.table.used
 

@@ -1,4 +1,4 @@
--- A score book's records, in the order of their beginning. Assumes nothing.
+-- A score book's records, the oldest first. Assumes nothing.
 use Rattle.std.specs.Prelude.{ℕ, Bool, true, false, cond, not, ◌&&◌, List, [], ◌∷◌, is_some, Some, None, Option}
 use Rattle.std.specs.List.{find, list_all, position}
 use Rattle.values.specs.Numbers.{same_kind}

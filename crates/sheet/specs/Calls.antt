@@ -33,7 +33,7 @@ Starts c s v k fs e =
     Comes (start_fault_of c s v k fs e) (s.rows.count + 1)
     s (with_rows s (added s.rows k fs e)) v (begun v (key_of (s.rows.count + 1)) e)
 
--- the row runs, and is not open at the host
+-- the row runs, and the host has it in another state than open
 abbrev pub not_open : Rows → View → ℕ → Bool
 not_open r v k = in_state r Running k && not (same_host_state (v.state (key_of k)) Open)
 

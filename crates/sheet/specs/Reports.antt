@@ -19,8 +19,8 @@ abbrev pub listing_fault_in : Chart → Sheet → ℕ → ℕ → ℕ → ℕ �
 listing_fault_in c s column line arrows restarts =
     listing_fault s column line arrows restarts (length (graph_arrows s)) (length (points_of c s))
 
--- a listing, in a column and a line of these lengths: how many arrows and restart points stand at the beginning of the two
--- tables; the rest of both is kept, and a declined listing leaves both as they were
+-- a listing, in a column and a line of these lengths: the two tables begin with arrows and restart points, as many as it answers,
+-- and stay behind these as they were; a declined listing leaves them alone
 pub record Lists (c : Chart) (s : Sheet) (column line : ℕ) (arrows : List RowArrow) (points : List ℕ) (r : Result (ℕ × ℕ) Fault) (arrows' : List RowArrow) (points' : List ℕ) : Type 0 where
   pub answers : r ≡ answer (listing_fault_in c s column line (length arrows) (length points))
       (length (graph_arrows s), length (points_of c s))
@@ -29,7 +29,7 @@ pub record Lists (c : Chart) (s : Sheet) (column line : ℕ) (arrows : List RowA
   pub point_table : points' ≡ after (listing_fault_in c s column line (length arrows) (length points)) points
       (over (points_of c s) points)
 
--- a reply of 32 bytes at a place of a buffer; all other bytes are kept
+-- a reply: its bytes stand from the place on, and what the buffer has elsewhere stays
 pub record Replies (c : Chart) (s : Sheet) (place : ℕ) (buffer : List ℕ) (r : Result (Unit {0}) Fault) (buffer' : List ℕ) : Type 0 where
   pub answers : r ≡ answer (reply_fault place (length buffer)) tt
   pub bytes : buffer' ≡ after (reply_fault place (length buffer)) buffer (written_at place (reply_of c s) buffer)
