@@ -1,34 +1,28 @@
 -- One call more of a journal that is played. Assumes nothing.
-use Rattle.std.proofs.Common.{◌≡◌, ℕ, ◌+◌, ◌≤◌, Bool, true, false, List, ◌++◌, Some, None, Option, sym, refl, ap, subst, ◌∙◌, arith}
-use Rattle.std.proofs.lemmas.Bool.Decides.{nat_tests}
+use Rattle.std.proofs.Common.{◌≡◌, ℕ, ◌+◌, ◌≤◌, Bool, true, false, List, [], ◌++◌, Some, None, Option, Result, sym, refl, ap, subst, ◌∙◌, arith}
 use Rattle.values.specs.declared.Answer.{Answer}
 use Rattle.values.specs.declared.Fault.{Fault}
-use Rattle.values.specs.declared.Kind.TheVariants.{Score, Fee}
-use Rattle.host.specs.Commands.{Left, LeavesAll, switch_declines, pair_declines, SwitchLeaves, PairLeaves}
+use Rattle.values.specs.declared.Kind.TheVariants.{Fee}
+use Rattle.host.specs.Commands.{Controlled, LeavesAll, switch_declines, pair_declines, SwitchLeaves, PairLeaves}
 use Rattle.host.specs.Known.{known_by, only, is_kind, Alone}
-use Rattle.host.specs.Laws.{Whole, Empty, MovesNoRow, joined_whole, alone_empty, switch_empty, pair_empty}
-use Rattle.host.specs.Laws.{nothing_moves, switch_moves_no_row, pair_moves_no_row}
-use Rattle.host.specs.View.{View, Sound, blank}
-use Rattle.host.specs.Views.{joined, switch_view, SwitchHolds, SwitchGoes, PairGoes}
+use Rattle.host.specs.Views.{switch_view, SwitchHolds, SwitchMakes, SwitchGoes, PairMakes, PairGoes}
+use Rattle.host.specs.declared.calls.Call.{Call as HostCall}
 use Rattle.host.specs.declared.hosts.NoCommand.{NoCommand}
 use Rattle.host.specs.declared.pair.PairCommand.TheVariants.{First, Second}
 use Rattle.host.specs.declared.switch.Switch.{Switch}
 use Rattle.host.specs.declared.switch.SwitchCommand.TheVariants.{On, Off, Below}
-use Rattle.host.proofs.Sorted.{sorted_fresh}
-use Rattle.scorebook.specs.Book.{book_view, BookGoes}
-use Rattle.scorebook.specs.Laws.{book_sound}
-use Rattle.ledger.specs.Book.{ledger_view, LedgerGoes}
+use Rattle.scorebook.specs.Book.{book_view, BookMakes, BookGoes}
+use Rattle.ledger.specs.Book.{ledger_view, LedgerMakes, LedgerGoes}
 use Rattle.ledger.specs.Fees.{standing_sum}
-use Rattle.ledger.specs.Laws.{ledger_sound}
 use Rattle.model.specs.Book.{accepted}
 use Rattle.model.specs.Chart.{Chart}
 use Rattle.model.specs.Run.{World, does}
-use Rattle.sheet.specs.Happenings.{happening, command_of, refused, Steered}
+use Rattle.sheet.specs.Happenings.{happening, command_of, refused_by}
+use Rattle.sheet.specs.Runs.{HostAfter}
 use Rattle.sheet.specs.declared.events.Event.{Event}
 use Rattle.sheet.specs.declared.events.Event.TheVariants as event
-use Rattle.sheet.proofs.Belonging.{steered_sorts}
 use Rattle.journal.specs.Calls.{Call, Turn, Command, call_of, call_text}
-use Rattle.journal.specs.Hosts.{Hosts, hosts_view, hosts_hold, InOrder, fees_standing, Switches, switches_of, turned_by, commanded, are_shut}
+use Rattle.journal.specs.Hosts.{Hosts, hosts_view, InOrder, fees_standing, Switches, switches_of, turned_by, commanded, are_shut}
 use Rattle.journal.specs.Played.{Part, called, lent, commands, Fits, Played, part_of, steered, event_of, counted, told_text, told_line, play_one}
 use Rattle.journal.specs.declared.summary.CallCounts.{CallCounts}
 
@@ -41,6 +35,10 @@ abbrev pub Goes : Hosts → Hosts → Type 0
 Goes h h' =
     PairGoes (switch_view ledger_view) (SwitchHolds (Alone ledger_view)) (SwitchGoes LedgerGoes)
     (switch_view book_view) (SwitchHolds (Alone book_view)) (SwitchGoes BookGoes) h h'
+
+abbrev pub Makes : Hosts → HostCall → Result (Unit {0}) Fault → Hosts → Type 0
+Makes h c r h' =
+    PairMakes (switch_view ledger_view) (SwitchMakes ledger_view LedgerMakes) (switch_view book_view) (SwitchMakes book_view BookMakes) h c r h'
 
 -- a book declines no command
 abbrev pub takes_any : {X : Type 0} → X → NoCommand → Option Fault
@@ -61,7 +59,7 @@ declines_none h (Second On) = refl
 declines_none h (Second Off) = refl
 declines_none h (Second (Below c)) = refl
 
-pub refuses_none : (h : Hosts) (c : Option Command) → refused declines h c ≡ None
+pub refuses_none : (h : Hosts) (c : Option Command) → refused_by declines h c ≡ None
 refuses_none h None = refl
 refuses_none h (Some c) = declines_none h c
 
@@ -77,58 +75,22 @@ obeys h h' (First turn) l =
 obeys h h' (Second turn) l =
     λ i. record { ledger = (l.1 i).on; scores = turned_switch LeavesAll h.second h'.second turn l.2 i }
 
-obeyed : (h h' : Hosts) (c : Command) → Left (declines h c) Leaves h c h' → switches_of h' ≡ commanded c (switches_of h)
-obeyed h h' c l = obeys h h' c (subst (λ f. Left f Leaves h c h') (declines_none h c) l)
+obeyed : (h h' : Hosts) (c : Command) → Controlled (declines h c) Leaves h c h' → switches_of h' ≡ commanded c (switches_of h)
+obeyed h h' c l = obeys h h' c (subst (λ f. Controlled f Leaves h c h') (declines_none h c) l)
+
+-- what an event leaves of the hosts
+abbrev pub After : Hosts → Option Command → List HostCall → Hosts → Type 0
+After h c asks h' = HostAfter hosts_view Makes Goes declines Leaves h c asks h'
 
 -- ── fees in the ledger, everything else in the score book ──
-
-hosts_sound : (h : Hosts) → Sound (hosts_view h)
-hosts_sound h =
-    let a = ledger_sound h.first.inner in
-    let b = book_sound h.second.inner in
-    record {
-      outside = λ row o. let p = a.outside row o in let q = b.outside row o in grind (arith, nat_tests);
-      entries = λ row. let p = a.entries row in let q = b.entries row in grind (arith, nat_tests);
-    }
-
-hosts_whole : Whole hosts_view hosts_hold
-hosts_whole h known k =
-    let a = ledger_sound h.first.inner in
-    joined_whole h.kind (switch_view ledger_view h.first) (switch_view book_view h.second) known
-    (record { outside = a.outside; entries = a.entries }) k.0 k.1
-
-hosts_empty : Empty hosts_view hosts_hold
-hosts_empty =
-    pair_empty (switch_view ledger_view) (SwitchHolds (Alone ledger_view)) (switch_view book_view) (SwitchHolds (Alone book_view))
-    (switch_empty ledger_view (Alone ledger_view) (alone_empty ledger_view ledger_sound))
-    (switch_empty book_view (Alone book_view) (alone_empty book_view book_sound))
-
-hosts_move_no_row : MovesNoRow hosts_hold Leaves
-hosts_move_no_row =
-    pair_moves_no_row (SwitchHolds (Alone ledger_view)) (SwitchLeaves LeavesAll) (SwitchHolds (Alone book_view)) (SwitchLeaves LeavesAll)
-    (switch_moves_no_row (Alone ledger_view) LeavesAll (nothing_moves (Alone ledger_view)))
-    (switch_moves_no_row (Alone book_view) LeavesAll (nothing_moves (Alone book_view)))
-
-pub new_order : (h : Hosts) (fees scores : ℕ) → h.kind ≡ Fee → hosts_view h ≡ joined Fee (blank Fee fees) (blank Score scores) → InOrder h
-new_order h fees scores is shows = record {
-  kind = is;
-  sorted = sorted_fresh hosts_view hosts_hold hosts_sound hosts_empty h (λ row. ap (λ (v : View). v.state row) shows);
-}
 
 same_kind_left : (h h' : Hosts) (c : Command) → Leaves h c h' → h'.kind ≡ h.kind
 same_kind_left h h' (First turn) l = l.0
 same_kind_left h h' (Second turn) l = l.0
 
-kind_kept : (c : Option Command) (h h' : Hosts) → Steered Goes declines Leaves h c h' → h'.kind ≡ h.kind
-kind_kept None h h' g = g.kind
-kind_kept (Some c) h h' l = same_kind_left h h' c (subst (λ f. Left f Leaves h c h') (declines_none h c) l)
-
-pub keeps_order : (c : Option Command) (h h' : Hosts) → Steered Goes declines Leaves h c h' → InOrder h → InOrder h'
-keeps_order c h h' s o = record {
-  kind = kind_kept c h h' s ∙ o.kind;
-  sorted = steered_sorts hosts_view hosts_hold hosts_sound hosts_whole Goes declines Leaves
-      (λ x y g. g.sorted) hosts_move_no_row c h h' s o.sorted;
-}
+pub kind_kept : (c : Option Command) (asks : List HostCall) (h h' : Hosts) → After h c asks h' → h'.kind ≡ h.kind
+kind_kept None asks h h' left = left.1.kind
+kind_kept (Some c) asks h h' left = same_kind_left h h' c (subst (λ f. Controlled f Leaves h c h') (declines_none h c) left)
 
 -- the ledger's rows are the fees among those of the hosts
 pub ledger_has_fees : (h : Hosts) → InOrder h → standing_sum (known_by (ledger_view h.first.inner)) ≡ fees_standing (hosts_view h)
@@ -139,19 +101,19 @@ untouched : (h h' : Hosts) → Goes h h' → switches_of h' ≡ switches_of h
 untouched h h' is =
     λ i. record { ledger = is.first.on i; scores = is.second.on i }
 
-pub steers : (e : Event Command) (h h' : Hosts) → Steered Goes declines Leaves h (command_of e) h'
+pub steers : (e : Event Command) (asks : List HostCall) (h h' : Hosts) → After h (command_of e) asks h'
     → switches_of h' ≡ steered (part_of (call_of e)) (switches_of h)
-steers (event.Start k fs e) h h' s = untouched h h' s
-steers (event.End k) h h' s = untouched h h' s
-steers (event.Abort m) h h' s = untouched h h' s
-steers (event.Undo t k) h h' s = untouched h h' s
-steers (event.Finish t) h h' s = untouched h h' s
-steers (event.Park t) h h' s = untouched h h' s
-steers event.Resume h h' s = untouched h h' s
-steers event.Listing h h' s = untouched h h' s
-steers (event.Reply place) h h' s = untouched h h' s
-steers (event.Lend sizes) h h' s = untouched h h' s
-steers (event.Control c) h h' s = obeyed h h' c s
+steers (event.Start k fs e) asks h h' left = untouched h h' left.1
+steers (event.End k) asks h h' left = untouched h h' left.1
+steers (event.Abort m) asks h h' left = untouched h h' left.1
+steers (event.Undo t k) asks h h' left = untouched h h' left.1
+steers (event.Finish t) asks h h' left = untouched h h' left.1
+steers (event.Park t) asks h h' left = untouched h h' left.1
+steers event.Resume asks h h' left = untouched h h' left.1
+steers event.Listing asks h h' left = untouched h h' left.1
+steers (event.Reply place) asks h h' left = untouched h h' left.1
+steers (event.Lend sizes) asks h h' left = untouched h h' left.1
+steers (event.Control c) asks h h' left = obeyed h h' c left
 
 same_event : (b : Bool) (e : Event Command) → happening b e ≡ event_of b (call_of e)
 same_event b (event.Start k fs e) = refl

@@ -1,6 +1,8 @@
 // The hosts of the program.
 ghost use Rattle.std.specs.Prelude.{◌≡◌, IfOk};
-ghost use Rattle.journal.specs.Hosts.{hosts_view, opening_hosts, switches_of, all_on, InOrder};
+ghost use Rattle.values.specs.declared.Kind.TheVariants.{Fee};
+ghost use Rattle.host.specs.View.{Fresh};
+ghost use Rattle.journal.specs.Hosts.{hosts_view, opening_hosts, switches_of, all_on};
 
 use host::{Pair, Switch};
 use ledger::Ledger;
@@ -25,7 +27,8 @@ const UNUSED_LINE: ledger::Line = ledger::Line {
 pub fn new_hosts(heap: Global, scores: u16, ledger: u16) -> Result<Hosts, AllocError>
     ensures shows { IfOk result (λ h. hosts_view h ≡ opening_hosts scores ledger) }
     ensures on { IfOk result (λ h. switches_of h ≡ all_on) }
-    ensures order { IfOk result (λ h. InOrder h) }
+    ensures kind { IfOk result (λ h. h.kind ≡ Fee) }
+    ensures fresh { IfOk result (λ h. Fresh (hosts_view h)) }
 {
     let ledger = Ledger::new(vec![in heap; UNUSED_LINE; usize::from(ledger)]?);
     let scores = ScoreBook::new(vec![in heap; Record::UNUSED; usize::from(scores)]?);

@@ -6,7 +6,7 @@ use journal::{
 };
 use process::tables::Tables;
 use process::{COLUMN, LINE, Process};
-use sheet::{Competition, Memory, Sheet};
+use sheet::{Competition, Memory, Sheet, Taken};
 use std::process::ExitCode;
 use std::time::{Duration, Instant};
 use values::Fault;
@@ -75,13 +75,14 @@ impl Course {
     fn lap(&self, rt: &HostRuntime, process: Process, treasurer: bool) -> anyhow::Result<Lap> {
         let steps = process.steps().len();
         let mut competition = self.competition(rt, process)?;
+        let mut taken = vec![in rt.alloc(); Taken::PLACE; self.events.len()]?;
         let start = Instant::now(rt)?;
-        let replayed = competition.replay(rt.alloc(), &self.events);
+        let replayed = competition.replay(rt.alloc(), &self.events, &mut taken);
         let spent = start.elapsed(rt)?;
         if let Some(error) = replayed.stopped {
             return Err(error.into());
         }
-        let calls = CallCounts::of(&self.events, &replayed.taken);
+        let calls = CallCounts::of(&self.events, &taken);
         let names = step_names(rt.alloc(), &self.stored, steps + 1)?;
         let balance = treasurer.then(|| competition.host().first().inner().balance());
         let summary = Summary::of(rt.alloc(), calls, competition.sheet(), names, balance)?;
