@@ -1,5 +1,5 @@
 -- One call more that was made on a host. Assumes nothing.
-use Rattle.std.proofs.Common.{◌≡◌, ℕ, ◌+◌, ◌<◌, List, [], ◌∷◌, ◌++◌, get_or, length, take, Result, sym, subst}
+use Rattle.std.proofs.Common.{ℕ, ◌+◌, ◌<◌, List, [], ◌∷◌, ◌++◌, get_or, length, take, Result, sym, subst}
 use Rattle.std.proofs.lemmas.List.{take_more}
 use Rattle.values.specs.Checks.{answer}
 use Rattle.values.specs.declared.Fault.{Fault}

@@ -1,5 +1,5 @@
 -- The lemmas that the laws of hosts cite: of a host without parts, of a switch, of a pair, and of a book. Assumes nothing.
-use Rattle.std.specs.Prelude.{◌≡◌, ℕ, ◌+◌, ◌-◌, ◌≤◌, Bool, true, false, cond, not, List, [], ◌∷◌, length, take, drop, is_some, Some, None, Option, refl}
+use Rattle.std.specs.Prelude.{◌≡◌, ℕ, ◌-◌, ◌≤◌, cond, not, List, [], ◌∷◌, length, drop, is_some, None, Option, refl}
 use Rattle.std.proofs.Common.{◌∙◌, sym, ap, subst, arith}
 use Rattle.std.proofs.lemmas.Bool.Decides.{nat_tests}
 use Rattle.std.proofs.lemmas.List.{drop-drop, length-take}
@@ -11,7 +11,7 @@ use Rattle.values.specs.declared.Kind.{Kind}
 use Rattle.host.specs.Keys.{RowKey}
 use Rattle.host.specs.Table.{IsPrefix, RestFrom}
 use Rattle.host.specs.View.{View, Sound, Fresh, is_unknown}
-use Rattle.host.specs.Known.{Known, KnownRow, known_by, known_row, if_wanted, only, is_kind, is_other, nothing_known, Alone}
+use Rattle.host.specs.Known.{Known, KnownRow, known_by, known_row, if_wanted, only, is_kind, is_other, Alone}
 use Rattle.host.specs.Known.{HoldsWhatItShows, HoldsNothingFresh, StaysSorted, MovesNoRow}
 use Rattle.host.specs.Views.{joined, switch_view, pair_view, SwitchHolds, PairHolds, SwitchGoes, PairGoes}
 use Rattle.host.specs.Commands.{LeavesAll, SwitchLeaves, PairLeaves}

@@ -1,10 +1,8 @@
 -- A list of rows as the model's columns. Assumes nothing.
 use Rattle.std.specs.Prelude.{◌≡◌, ℕ, ◌-◌, ◌≤◌, Bool, true, cond, not, ◌&&◌, List, [], length, None, Option, ◌==◌, nat_le, nat_lt, slice_get, slice_index_or}
-use Rattle.values.specs.declared.Flow.{Flow}
 use Rattle.values.specs.declared.RowState.TheVariants.{Absent}
 use Rattle.model.specs.Search.{any, has}
-use Rattle.model.specs.Chart.{by_flow}
-use Rattle.model.specs.Rows.{Rows, no_entry, is_row, live}
+use Rattle.model.specs.Rows.{Rows, no_entry, is_row}
 use Rattle.rows.specs.declared.row.Row.{Row}
 
 abbrev pub no_row : Row

@@ -1,11 +1,8 @@
 -- Records stay where they are by one call. Assumes nothing.
-use Rattle.std.proofs.Common.{◌≡◌, ◌+◌, ◌-◌, List, [], ◌∷◌, ◌++◌, length, map, drop, ap, ◌∙◌, arith}
-use Rattle.std.proofs.lemmas.List.{length_push, map-append}
+use Rattle.std.proofs.Common.{◌≡◌, List, [], ◌∷◌, length, map, arith}
 use Rattle.std.proofs.lemmas.Bool.Decides.{nat_tests}
 use Rattle.values.specs.declared.HostState.{HostState}
 use Rattle.host.specs.Keys.{RowKey}
-use Rattle.host.specs.Laws.{prefix_stays}
-use Rattle.host.specs.Table.{IsPrefix}
 use Rattle.scorebook.specs.declared.records.Record.{Record}
 use Rattle.scorebook.specs.Records.{without_state, turned}
 

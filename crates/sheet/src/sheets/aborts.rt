@@ -26,8 +26,8 @@ impl Sheet {
     fn may_drop_running<X: Host>(&self, host: &X) -> Result<(), Fault>
         ensures { result ≡ answer (first_fault (drop_checks (sheet_of self.now) (X.Host.view host.now))) tt }
     {
-        let to_drop = self.table.rows_in(RowState::Running);
-        for row in to_drop.iter() {
+        let running = self.table.rows_in(RowState::Running);
+        for row in running.iter() {
             host.may_move(row_key(row), HostState::Open)?;
         }
         Ok(())

@@ -1,5 +1,5 @@
 -- The ring begins one place further on.
-use Rattle.std.proofs.Common.{◌<◌, ◌∷◌, drop, length, inl, inr, sym, ap, ◌∙◌, arith}
+use Rattle.std.proofs.Common.{◌<◌, length, inl, inr, arith}
 use Rattle.graph.proofs.Rings.{sound, ring_rest, Next}
 use Rattle.graph.proofs.queue.Queue.drop_first.Goals as goal
 use Rattle.graph.proofs.queue.Queue.drop_first.Goals.{then-self-n, else-self-n}

@@ -21,10 +21,10 @@ pub loop-row-preserved : goal.loop-row-preserved
 loop-row-preserved g c =
     let r = (sheet_of c.args.self.now).rows in
     let v = g.X.Host.view c.args.host.now in
-    let next = next_member c.rows_in-to_drop.result _ _ c.into_iter-row-iterator.ensures.into_iter_gives c.iter-row-items.ensures
+    let next = next_member c.rows_in-running.result _ _ c.into_iter-row-iterator.ensures.into_iter_gives c.iter-row-items.ensures
     c.loop-row.yielded_by c.in-Some.ensures.steps in
     subst (Clear r v) (sym (top_more 0 c.loop-row.yielded c.in-Some.row))
-    (clear_more r v (contains c.rows_in-to_drop.result) c.rows_in-to_drop.ensures next c.loop-row.invariant
+    (clear_more r v (contains c.rows_in-running.result) c.rows_in-running.ensures next c.loop-row.invariant
     (passes _ _ (simp c.row_key.ensures at c.may_move.ensures) c.in_ok-may_move.was))
 
 pub returns-in_err-may_move : goal.returns-in_err-may_move
@@ -32,8 +32,8 @@ returns-in_err-may_move g c =
     let s = sheet_of c.args.self.now in
     let v = g.X.Host.view c.args.host.now in
     let n = c.in-Some.row in
-    let is : (k : ℕ) → contains c.rows_in-to_drop.result k ≡ in_state s.rows Running k = c.rows_in-to_drop.ensures in
-    let next = next_member c.rows_in-to_drop.result _ _ c.into_iter-row-iterator.ensures.into_iter_gives c.iter-row-items.ensures
+    let is : (k : ℕ) → contains c.rows_in-running.result k ≡ in_state s.rows Running k = c.rows_in-running.ensures in
+    let next = next_member c.rows_in-running.result _ _ c.into_iter-row-iterator.ensures.into_iter_gives c.iter-row-items.ensures
     c.loop-row.yielded_by c.in-Some.ensures.steps in
     let runs : in_state s.rows Running n ≡ true = sym (is n) ∙ next.1 in
     let e = c.in_err-may_move.field-0.0 in
@@ -41,13 +41,13 @@ returns-in_err-may_move g c =
     (simp c.row_key.ensures at c.may_move.ensures) c.in_err-may_move.was in
     let told : c.from_residual.result ≡ Err e = search rules in
     told ∙ sym (ap (λ f. answer f tt) (declines_first s v n e (runs_within c.args.self.now.table n runs) (runs_as_row c.args.self.now.table n runs)
-    runs (clear_below s.rows v (contains c.rows_in-to_drop.result) is next c.loop-row.invariant) fails))
+    runs (clear_below s.rows v (contains c.rows_in-running.result) is next c.loop-row.invariant) fails))
 
 pub returns : goal.returns
 returns g c =
     let s = sheet_of c.args.self.now in
     let v = g.X.Host.view c.args.host.now in
-    let past = no_next_member c.rows_in-to_drop.result _ _ c.into_iter-row-iterator.ensures.into_iter_gives c.iter-row-items.ensures
+    let past = no_next_member c.rows_in-running.result _ _ c.into_iter-row-iterator.ensures.into_iter_gives c.iter-row-items.ensures
     c.loop-row.yielded_by c.in-None.ensures.steps.0 in
     sym (ap (λ f. answer f tt)
-    (drops_all s v (clear_all s.rows v (contains c.rows_in-to_drop.result) c.rows_in-to_drop.ensures past c.loop-row.invariant)))
+    (drops_all s v (clear_all s.rows v (contains c.rows_in-running.result) c.rows_in-running.ensures past c.loop-row.invariant)))
