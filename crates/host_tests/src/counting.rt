@@ -1,10 +1,10 @@
 // A host that keeps more than it shows: it counts the calls that it declines.
 ghost use Rattle.std.specs.Prelude.{◌≡◌};
 ghost use Rattle.host.specs.Calls.{Performs};
-ghost use Rattle.host_tests.specs.Counting.{counting_view, CountingHolds, CountingMakes, CountingGoes, counting_stays, counting_goes_on};
+ghost use Rattle.host_tests.specs.Counting.{counting_view, CountingHolds, CountingMakes, CountingGoes, CountingLeaves, counting_stays, counting_goes_on};
 ghost use Rattle.std.proofs.Common.{rules};
 
-use host::{Call, Host, RowKey};
+use host::{Call, Controls, Host, RowKey};
 use values::{Entry, Fault, HostState, Kind};
 
 /// Any host, with a count of declined calls.
@@ -94,5 +94,21 @@ impl<X: Host> Host for Counting<X> {
 
     fn entry(&self, row: RowKey) -> Option<Entry> {
         self.inner.entry(row)
+    }
+}
+
+impl<X: Controls> Controls for Counting<X> {
+    type Command = X::Command;
+
+    ghost declines = { λ n c. X.Controls.declines n.inner c };
+
+    ghost shuts = { λ n c. X.Controls.shuts n.inner c };
+
+    ghost leaves = { CountingLeaves X.Controls.leaves };
+
+    ghost moves_no_row = { λ n c m left. X.Controls.moves_no_row n.inner c m.inner left.0 };
+
+    fn control(&mut self, command: &X::Command) -> Result<bool, Fault> {
+        self.inner.control(command)
     }
 }

@@ -1,8 +1,7 @@
 -- One call more of a journal that is played. Assumes nothing.
-use Rattle.std.proofs.Common.{◌≡◌, ℕ, ◌+◌, ◌≤◌, Bool, true, false, List, [], ◌++◌, Some, None, Option, Result, sym, refl, ap, subst, ◌∙◌, arith}
+use Rattle.std.proofs.Common.{◌≡◌, ℕ, ◌+◌, ◌≤◌, Bool, true, false, List, ◌++◌, Some, None, Option, Result, sym, refl, ap, subst, ◌∙◌, arith}
 use Rattle.values.specs.declared.Answer.{Answer}
 use Rattle.values.specs.declared.Fault.{Fault}
-use Rattle.values.specs.declared.Kind.TheVariants.{Fee}
 use Rattle.host.specs.Commands.{Controlled, LeavesAll, switch_declines, pair_declines, SwitchLeaves, PairLeaves}
 use Rattle.host.specs.Known.{known_by, only, is_kind, Alone}
 use Rattle.host.specs.Views.{switch_view, SwitchHolds, SwitchMakes, SwitchGoes, PairMakes, PairGoes}

@@ -101,9 +101,6 @@ module _ (s : Sheet) (v : View) (t : TicketNumber) (k column line : ℕ)
   undo_passed : Passed (undo_checks s v t k column line)
   undo_passed = passes (undo_checks s v t k column line) accepted
 
-  pub undo_undoing : s.phase ≡ Undoing
-  undo_undoing = phase_passed s Undoing undo_passed.1.0
-
   pub undo_due : s.rows.state k ≡ Due
   undo_due = row_passed s.rows Due k undo_passed.1.1.1.0
 

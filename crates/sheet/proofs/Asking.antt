@@ -1,6 +1,5 @@
 -- What the host was asked: nothing, where a check fails, and else what the call asks. Assumes nothing.
-use Rattle.std.proofs.Common.{◌≡◌, List, [], ◌∷◌, None, Some, Option, Result, sym, subst}
-use Rattle.values.specs.Checks.{first_fault}
+use Rattle.std.proofs.Common.{◌≡◌, List, [], ◌∷◌, Option, Result, sym, subst}
 use Rattle.values.specs.declared.Fault.{Fault}
 use Rattle.host.specs.Made.{Made, none}
 use Rattle.host.specs.View.{View}

@@ -1,5 +1,5 @@
 -- Rows stay where they belong, whatever events a competition takes. Assumes nothing.
-use Rattle.std.proofs.Common.{◌≡◌, ℕ, List, sym, subst, Option, Result}
+use Rattle.std.proofs.Common.{List, sym, subst, Option, Result}
 use Rattle.values.specs.declared.Fault.{Fault}
 use Rattle.host.specs.View.{View, Sound}
 use Rattle.host.specs.Known.{Known, known_by, Sorted, HoldsWhatItShows, StaysSorted, MovesNoRow}

@@ -1,7 +1,7 @@
 -- What events carry on. Assumes nothing.
 use Rattle.std.proofs.Common.{◌≡◌, ℕ, ◌+◌, ◌<◌, List, [], ◌∷◌, ◌++◌, length, get_or, set, take, Some, None, Option, Result, sym, refl, ap, ◌∙◌, subst, arith}
 use Rattle.std.specs.List.{zip}
-use Rattle.std.proofs.lemmas.List.{append-nil, append_assoc, length_push, length-take-le, map-append, take_more_set}
+use Rattle.std.proofs.lemmas.List.{append-nil, append_assoc, length-take-le, map-append, take_more_set}
 use Rattle.values.specs.declared.Answer.{Answer}
 use Rattle.values.specs.declared.Fault.{Fault}
 use Rattle.host.specs.Commands.{Controlled}
@@ -23,28 +23,6 @@ leads_on : (c : Chart) (first : World) {g : History} {w : World} {h : History} {
 leads_on c first {g} {w} p nothing = subst (λ x. Leads c first x w) (sym (append-nil g)) p
 leads_on c first {g} {w} p (one_more {h = h} {w = v} q e) =
     subst (λ x. Leads c first x (does c v e).0) (append_assoc g h ((e, (does c v e).1) ∷ [])) (one_more (leads_on c first p q) e)
-
--- no event leads nowhere else, and one to the world that it leaves
-leads_none : (c : Chart) (w : World) {h : History} {w' : World} → Leads c w h w' → length h ≡ 0 → w' ≡ w
-leads_none c w nothing none = refl
-leads_none c w (one_more {h = h} {w = v} q e) none = absurd (omega (arith, length_push h (e, (does c v e).1), none))
-
-leads_one : (c : Chart) (w : World) {h : History} {w' : World} (e : Happening) (a : Answer)
-    → Leads c w h w' → h ≡ (e, a) ∷ [] → does c w e ≡ (w', a)
-leads_one c w e a nothing is = absurd (let size = ap length is in omega (arith, size))
-leads_one c w e a (one_more {h = h} {w = v} q f) is =
-    let size : length h + 1 ≡ 1 = sym (length_push h (f, (does c v f).1)) ∙ ap length is in
-    let first : v ≡ w = leads_none c w q (omega (arith, size)) in
-    let last : (f, (does c v f).1) ≡ (e, a) = last_is h is (omega (arith, size)) in
-    ap (does c w) (sym (ap (λ (x : Happening × Answer). x.0) last)) ∙ ap (λ x. does c x f) (sym first)
-    ∙ ap (λ b. ((does c v f).0, b)) (ap (λ (x : Happening × Answer). x.1) last)
-  where
-    last_is : (h : History) {x y : Happening × Answer} → h ++ x ∷ [] ≡ y ∷ [] → length h ≡ 0 → x ≡ y
-    last_is [] {x} {y} is none = ap (λ l. get_or l 0 x) is
-    last_is (z ∷ h) is none = absurd (omega (arith, none))
-
-pub gone_one : (c : Chart) (w : World) (e : Happening) (a : Answer) (w' : World) → GoesOn c w ((e, a) ∷ []) w' → does c w e ≡ (w', a)
-gone_one c w e a w' g = leads_one c w e a g.leads refl
 
 -- where each answer is the one that the definitions name, the law is carried on
 pub goes_on : (c : Chart) (w : World) {h : History} {w' : World} → Leads c w h w' → GoesOn c w h w'

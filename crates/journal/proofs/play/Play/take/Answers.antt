@@ -3,7 +3,7 @@ use Rattle.std.proofs.Common.{◌≡◌, ◌++◌, string_bytes, ap, sym, subst,
 use Rattle.std.proofs.lemmas.Result.{on_ok_weaker}
 use Rattle.model.specs.Book.{accepted}
 use Rattle.model.specs.Run.{said}
-use Rattle.sheet.specs.Happenings.{happening, command_of}
+use Rattle.sheet.specs.Happenings.{command_of}
 use Rattle.sheet.specs.Lent.{lent_of}
 use Rattle.sheet.specs.Runs.{world_of}
 use Rattle.sheet.specs.declared.replay.Competition.{Competition}

@@ -1,5 +1,5 @@
 -- The events so far were taken, and told of in their places; the other places are as they were.
-use Rattle.std.proofs.Common.{◌≡◌, ◌≤◌, length, take, drop}
+use Rattle.std.proofs.Common.{◌≡◌, take, drop}
 use Rattle.std.specs.List.{zip}
 use Rattle.sheet.specs.Runs.{process_of, TakesAll}
 use Rattle.sheet.proofs.replay.Competition.replay.Given as goal

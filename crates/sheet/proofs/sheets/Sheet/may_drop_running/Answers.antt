@@ -1,5 +1,5 @@
 -- The first running row that the host would not drop is told.
-use Rattle.std.proofs.Common.{◌≡◌, ℕ, ◌≤◌, Bool, true, Err, rules, sym, ap, ◌∙◌, subst}
+use Rattle.std.proofs.Common.{◌≡◌, ℕ, true, Err, rules, sym, ap, ◌∙◌, subst}
 use Rattle.values.specs.Checks.{answer, first_fault}
 use Rattle.values.specs.declared.HostState.TheVariants.{Open}
 use Rattle.values.specs.declared.RowState.TheVariants.{Running}
@@ -8,8 +8,7 @@ use Rattle.host.specs.View.{move_checks}
 use Rattle.host.proofs.Checks.{passes}
 use Rattle.model.specs.Rows.{in_state}
 use Rattle.rowset.specs.Members.{contains}
-use Rattle.rowset.proofs.Iteration.{top, top_more, next_member, no_next_member}
-use Rattle.sheet.specs.Calls.{drop_checks}
+use Rattle.rowset.proofs.Iteration.{top_more, next_member, no_next_member}
 use Rattle.sheet.specs.SheetOf.{sheet_of}
 use Rattle.sheet.proofs.Aborting.{Clear, fails_with, clear_first, clear_more, clear_below, clear_all, drops_all, declines_first, runs_within, runs_as_row}
 use Rattle.sheet.proofs.sheets.Sheet.may_drop_running.Goals as goal

@@ -1,7 +1,4 @@
 -- The rows so far may be dropped.
-use Rattle.std.proofs.Common.{◌≡◌, ℕ, ◌≤◌, true, None}
-use Rattle.values.specs.declared.RowState.TheVariants.{Running}
-use Rattle.model.specs.Rows.{in_state}
 use Rattle.rowset.proofs.Iteration.{top}
 use Rattle.sheet.specs.SheetOf.{sheet_of}
 use Rattle.sheet.proofs.Aborting.{Clear}
