@@ -3,8 +3,8 @@ ghost use Rattle.std.specs.Prelude.{◌<◌, ◌≤◌, length};
 
 mod methods;
 
-/// A first-in-first-out queue over slots that are lent to it.
-// A ring by hand: no queue of the library stands in slots that are lent.
+/// A queue over slots that are lent to it: the element that waits longest is the first to go.
+// A ring: after the last slot comes the first.
 #[derive(Drop)]
 pub struct Queue<'a, T> {
     slots: &'a mut [T],

@@ -31,7 +31,7 @@ pub trait Graph {
 pub struct NoRoom;
 
 /// Marks exactly the points that are reached, where there is room.
-// It takes the marks and the line apart: that a line stays as long is known of a slice that is passed, not of a field.
+// The line comes as a slice: of one that is passed it is known that it keeps its length.
 fn explore<G: Graph>(g: &G, starts: &[u16], points: usize, marks: &mut Marks, line: &mut [u16])
     requires points { points ≡ G.Graph.points g.now }
     requires room { true ≡ roomy points (length line.old) (length (held marks.old)) }
@@ -49,7 +49,7 @@ fn explore<G: Graph>(g: &G, starts: &[u16], points: usize, marks: &mut Marks, li
     traversal.run(g, starts);
 }
 
-/// Marks exactly the points that are reached from `starts` by zero or more arrows.
+/// Marks the points of `starts`, every point that an arrow leads to from a marked one, and no other.
 ///
 /// What was marked before does not matter. Numbers in `starts` that are not points of the graph are passed over.
 /// The line wants a place for each point, and the column a mark for each; where one is too short, nothing changes.

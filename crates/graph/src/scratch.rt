@@ -7,7 +7,7 @@ use crate::marks::Marks;
 /// The memory that a traversal is lent: the marks that it sets, and the line that its queue waits in.
 ///
 /// What the line holds after a traversal is of no meaning.
-// The marks are lent too: of marks that it owned, a caller could not prove that the column is wiped in the end.
+// The marks are lent, so that who made them can prove that the column is wiped in the end.
 #[derive(Drop)]
 pub struct Scratch<'s, 'a> {
     pub marks: &'s mut Marks<'a>,

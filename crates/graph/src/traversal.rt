@@ -13,7 +13,7 @@ use crate::reach::Graph;
 /// A traversal of a graph of `points` points: those that were taken in are marked, and some of them wait.
 ///
 /// The column has a mark for each point, and the queue a free place for each that is not marked yet.
-// The queue is lent as the marks are: of one that it owned, a caller could not prove what is marked in the end.
+// The queue is lent, as the marks are, so that the caller can prove what is marked in the end.
 #[derive(Drop)]
 pub(crate) struct Traversal<'r, 'm, 's, 'q> {
     pub(crate) points: usize,
@@ -57,7 +57,7 @@ impl Traversal<'_, '_, '_, '_> {
     {
         for s in starts {
             let t = *s as usize;
-            // two comparisons: with the range's `contains` the check leaves its goals open
+            // by these two comparisons the check knows that `t` is a point
             if t == 0 || t > self.points {
                 continue;
             }

@@ -27,25 +27,25 @@ pub trait Host {
     // whether each part of a host knows, of given rows, exactly those that belong there
     ghost holds: { Self → Known → Type 0 };
 
-    /// Begins an unknown row: it is open, with this entry.
+    /// Begins a row that the host does not know yet: from now on it is open, with this entry.
     fn begin(&mut self, row: RowKey, entry: Entry) -> Result<(), Fault>
         ensures does { Begins (view self.old) row entry result (view self.new) }
         ensures made { makes self.old (Begin row entry) result self.new }
         ensures goes { goes self.old self.new };
 
-    /// Makes an open row stand.
+    /// Confirms an open row: it stands.
     fn commit(&mut self, row: RowKey) -> Result<(), Fault>
         ensures does { Moves Open Standing (view self.old) row result (view self.new) }
         ensures made { makes self.old (Commit row) result self.new }
         ensures goes { goes self.old self.new };
 
-    /// Makes an open row void.
+    /// Gives an open row up: it is void.
     fn drop_row(&mut self, row: RowKey) -> Result<(), Fault>
         ensures does { Moves Open Void (view self.old) row result (view self.new) }
         ensures made { makes self.old (Drop row) result self.new }
         ensures goes { goes self.old self.new };
 
-    /// Undoes a standing row.
+    /// Takes a standing row back: it is undone.
     fn undo(&mut self, row: RowKey) -> Result<(), Fault>
         ensures does { Moves Standing Reversed (view self.old) row result (view self.new) }
         ensures made { makes self.old (Undo row) result self.new }
@@ -55,7 +55,7 @@ pub trait Host {
     fn is_shut(&self) -> bool
         ensures { result ≡ (view self.now).shut };
 
-    /// How many more rows of a kind the host takes.
+    /// The room for a kind: so many rows of it can still begin.
     fn room(&self, kind: Kind) -> u16
         ensures { result ≡ (view self.now).room kind };
 
@@ -63,7 +63,7 @@ pub trait Host {
     fn state(&self, row: RowKey) -> HostState
         ensures { result ≡ (view self.now).state row };
 
-    /// The entry of a row that the host knows.
+    /// The entry that a row began with, if it began.
     fn entry(&self, row: RowKey) -> Option<Entry>
         ensures { result ≡ (view self.now).entry row };
 

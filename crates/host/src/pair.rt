@@ -1,4 +1,4 @@
-// Two hosts as one: rows of one kind go to the first, all others to the second.
+// Two hosts as one: which of them has a row depends on the row's kind.
 ghost use Rattle.std.specs.Prelude.{◌≡◌};
 ghost use Rattle.values.specs.Numbers.{same_kind};
 ghost use Rattle.host.specs.Calls.{Performs};
@@ -13,7 +13,7 @@ use crate::hosts::{Controls, Host};
 use crate::keys::RowKey;
 use values::{Cause, Entry, Fault, HostState, Kind};
 
-/// Two hosts as one: rows of the named kind are written to the first, all others to the second.
+/// Two hosts as one: the first is for the rows of `kind`, the second for those of any other.
 #[derive(Drop)]
 pub struct Pair<X, Y> {
     kind: Kind,
@@ -49,7 +49,7 @@ impl<X: Host, Y: Host> Host for Pair<X, Y> {
 
     ghost stays_sorted = { pair_sorted X.Host.view X.Host.holds Y.Host.view Y.Host.holds X.Host.goes Y.Host.goes };
 
-    // Four lines, as in the other of the two: a trait with the call as its one method would have every host take it apart.
+    // Each call goes on as a value.
     fn begin(&mut self, row: RowKey, entry: Entry) -> Result<(), Fault> {
         self.pass(Call::Begin(row, entry))
     }
@@ -113,7 +113,7 @@ impl<X: Controls, Y: Controls> Controls for Pair<X, Y> {
 }
 
 impl<X: Host, Y: Host> Pair<X, Y> {
-    /// A pair of hosts: rows of this kind go to the first, all others to the second.
+    /// A pair of these hosts: the first is for rows of this kind, the second for those of any other.
     pub fn new(kind: Kind, first: X, second: Y) -> Pair<X, Y>
         ensures shows { pair_view X.Host.view Y.Host.view result ≡ joined kind (X.Host.view first) (Y.Host.view second) }
         ensures kind { result.kind ≡ kind }
@@ -127,7 +127,7 @@ impl<X: Host, Y: Host> Pair<X, Y> {
         }
     }
 
-    // Whether rows of a kind go to the first host.
+    // Whether the first host is the one for a kind.
     fn takes_first(&self, kind: Kind) -> bool
         ensures { result ≡ same_kind kind self.now.kind }
     {
@@ -165,14 +165,14 @@ impl<X: Host, Y: Host> Pair<X, Y> {
         }
     }
 
-    /// The host that takes the named kind.
+    /// The host for the pair's kind.
     pub fn first(&self) -> &X
         ensures { result.now ≡ self.now.first }
     {
         &self.first
     }
 
-    /// The host that takes all other kinds.
+    /// The host for any other kind.
     pub fn second(&self) -> &Y
         ensures { result.now ≡ self.now.second }
     {

@@ -9,7 +9,7 @@ use crate::keys::{RowKey, is_row};
 const PLACES: usize = 65535;
 
 /// A place for each row, or none.
-// By the row's number one more than the place, or 0 for none: half the size of a table of options.
+// At the row's number stands one more than the place, or 0 for none.
 #[derive(Drop)]
 pub struct Places {
     next: [u16; 257],

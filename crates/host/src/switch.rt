@@ -1,4 +1,4 @@
-// A host with a switch: while it is off, the host is shut.
+// A host that can be switched off, which shuts it, and on again.
 ghost use Rattle.std.specs.Prelude.{◌≡◌, true};
 ghost use Rattle.host.specs.Calls.{Performs};
 ghost use Rattle.host.specs.Commands.{switch_declines, switch_shuts, SwitchLeaves};
@@ -12,7 +12,7 @@ use crate::hosts::{Controls, Host};
 use crate::keys::RowKey;
 use values::{Cause, Entry, Fault, HostState, Kind};
 
-/// A host that is shut while the switch is off, and is the host below while it is on.
+/// While it is on, all is as at the host below; turned off, it declines every call as a shut host does.
 #[derive(Drop)]
 pub struct Switch<X> {
     inner: X,
@@ -48,7 +48,7 @@ impl<X: Host> Host for Switch<X> {
 
     ghost stays_sorted = { switch_sorted X.Host.view X.Host.holds X.Host.stays_sorted };
 
-    // Four lines, as in the other of the two: a trait with the call as its one method would have every host take it apart.
+    // Each call goes on as a value.
     fn begin(&mut self, row: RowKey, entry: Entry) -> Result<(), Fault> {
         self.pass(Call::Begin(row, entry))
     }
@@ -106,7 +106,7 @@ impl<X: Controls> Controls for Switch<X> {
 }
 
 impl<X: Host> Switch<X> {
-    /// A switch over a host, on at first.
+    /// Puts a switch over a host; it starts out on.
     pub fn new(inner: X) -> Switch<X>
         ensures shows { switch_view X.Host.view result ≡ X.Host.view inner }
         ensures on { result.on ≡ true }

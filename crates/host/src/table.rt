@@ -5,7 +5,7 @@ ghost use Rattle.host.specs.Table.{Parts, capacity_of};
 use std::marker::Model;
 
 /// A table that a caller brings: the items in use, in the order in which they were added, and the rest as it was.
-// The caller gets all of the table back, and an item more needs no memory: so a length stands beside a Vec.
+// The first `filled` items are in use; those behind them are what the caller brought.
 #[derive(Drop)]
 pub struct Table<T> {
     items: Vec<T>,

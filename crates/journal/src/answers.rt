@@ -7,7 +7,7 @@ use std::fmt;
 use values::{Fault, RowArrow, TicketNumber};
 
 /// What a line of the journal was answered.
-// No Result: it is printed, by a Display of its own.
+// It is printed by its `Display`, a fault as any other answer.
 #[derive(Clone, Copy, Drop)]
 pub enum Answer<'a> {
     Process {

@@ -7,7 +7,7 @@ use std::fmt;
 use values::RowArrow;
 
 // An item of a list.
-// `RowArrow` is another crate's, so it is told here by a trait of this crate, and not by a Display.
+// A trait of this crate, so that `RowArrow`, which is another crate's, can have it.
 pub(crate) trait Item {
     // how it is written
     ghost text: { Self → List ℕ };

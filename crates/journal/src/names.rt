@@ -25,7 +25,7 @@ pub fn step_names(heap: Global, stored: &[u8], records: usize) -> Result<Vec<Str
 {
     let mut names = Vec::new(heap);
     let mut reader = Reader::new(stored);
-    // a number of records, by which nothing is looked up
+    // so many records are read, if the reader has them
     for _i in 0..records {
         let Ok(Some(item)) = reader.next() else {
             return Ok(names);

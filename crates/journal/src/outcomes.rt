@@ -16,7 +16,7 @@ use values::Fault;
 pub struct Outcome {
     pub printed: String,
     pub reported: String,
-    // no result: both texts always mean something
+    // set where the journal was replayed; both texts are to be shown either way
     pub accepted: bool,
 }
 

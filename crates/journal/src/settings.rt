@@ -90,7 +90,7 @@ fn read_line(heap: Global, line: &[u8]) -> Result<Option<Statement<'_>>, LineErr
 }
 
 // The settings and the calls that were read so far; the process and each call with the number of its line.
-// Serial, scores and ledger are all numbers, but each has an order and a default of its own: a list of numbers would hide which is which.
+// Each setting has its field: where it may stand, and what holds without it, is not the same for all.
 #[derive(Drop)]
 pub(crate) struct Draft {
     process: Option<(usize, Vec<u8>)>,

@@ -40,7 +40,7 @@ pub struct Summary {
     pub balance: Option<i64>,
 }
 
-// `Phase` and `RowState` are another crate's, so their words are told here by functions, and not by a Display.
+// The words for a phase and for how a step stands, whose types are another crate's.
 fn phase_word(phase: Phase) -> &'static str
     ensures { result.now ≡ phase_text phase }
 {

@@ -21,7 +21,7 @@ fn is_allowed(b: u8) -> bool
     is_blank(b) || b.is_ascii_graphic()
 }
 
-// What a hex digit says. The arms show what each digit stands for, and the order of faults stays ours.
+// What a hex digit says, by its range.
 fn nibble(b: u8) -> Option<u8>
     ensures { result ≡ nibble b }
 {
@@ -40,8 +40,8 @@ pub(crate) fn is_clean(line: &[u8]) -> bool
     line.iter().all(|b| is_allowed(*b))
 }
 
-// These two have names and contracts, as `is_clean` above and the two below: inside their callers the check did not
-// find the proof of what the chains answer.
+// Whether every byte of a word is a digit, and whether every one is a hex digit. The proofs of the callers go by these two
+// contracts.
 fn all_digits(word: &[u8]) -> bool
     ensures { result ≡ list_all digit word.now }
 {
@@ -187,7 +187,7 @@ pub(crate) fn check_hex(word: &[u8]) -> Result<(), Wrong>
     }
 }
 
-// The byte that two hex digits say; `check_hex` has refused all others, so no 0 is made up.
+// The byte that two hex digits say; `check_hex` refuses all others before.
 fn pair(high: u8, low: u8) -> u8
     ensures { result ≡ pair high low }
 {

@@ -78,7 +78,7 @@ fee_added (Some p) l f =
 alike : (p s t a b w : ℤ) → p ≡ s → t +ℤ a ≡ s +ℤ b → b ≡ a +ℤ w → p +ℤ w ≡ t
 alike p s t a b w e c d = omega (arith, ints)
 
--- whatever line may follow, the balance stays the sum of the standing fees
+-- whatever line may follow, the balance is still what the fees that stand come to
 pub balanced_push : (xs : List Line) (l : Line) → is_row l.row ≡ true → Follows (last_of xs l.row) l
     → posted xs ≡ standing_sum (known_by (kept_by 0 xs)) → posted (xs ++ l ∷ []) ≡ standing_sum (known_by (kept_by 0 (xs ++ l ∷ [])))
 balanced_push xs l i f old =

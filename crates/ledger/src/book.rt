@@ -13,7 +13,7 @@ use host::{Places, Table};
 mod changes;
 pub(crate) mod hosting;
 
-/// A host that takes fees and only adds lines, in the first 768 lines of a table.
+/// A host that takes fees. Each change is one line more, in a table of which 768 lines at most are used.
 #[derive(Drop)]
 pub struct Ledger {
     table: Table<Line>,

@@ -1,4 +1,4 @@
-// The ledger: a host that only adds lines, in a table that the caller brings.
+// The ledger: a host that writes a line for each change, in a table that it is made with.
 #![tactic(auto)]
 
 mod book;

@@ -82,12 +82,12 @@ fn number_of(entry: Entry) -> i64
     entry.number.map_or(0, i64::from)
 }
 
-// Posts less contras.
+// What the posts come to, without the contras.
 pub(crate) fn total(lines: &[Line]) -> i64
     requires { length lines.now ≤ lines_most }
     ensures { result ≡ posted lines.now }
 {
-    // A chain that sums signed numbers gets no proof that the sum fits.
+    // The loop's invariant says that the sum so far fits.
     let mut sum = 0;
     for line in lines {
         sum += line.worth();

@@ -1,4 +1,4 @@
--- A listing has exactly the arrows and the restart points, each once, rising; and it is the same from abort to finish.
+-- A listing has each arrow and each restart point once, in rising order, and no more; while a rollback lasts it does not change.
 -- Assumes nothing.
 use Rattle.std.proofs.Common.{◌≡◌, ℕ, ◌+◌, ◌<◌, ◌≤◌, Bool, true, false, cond, ◌&&◌, ◌||◌, eqb, List, [], ◌∷◌, ◌++◌, map, None, Decides, sym, refl, ap, ◌∙◌, subst, ap₂, inl, inr, arith}
 use mathlib.Core.Path.{fun_ext}
@@ -326,7 +326,7 @@ mode_known_leads c k known (one_more {w = w} l e) =
 pub mode_known_reached : (c : Chart) {w : World} → Reached c w → ModeKnown w.sheet
 mode_known_reached c r = mode_known_leads c (kept_first r.serial) (mode_known_first r.serial) r.leads
 
--- ── from abort to finish ──
+-- ── while a rollback lasts ──
 
 -- a test that takes due and undone alike does not see an undo
 unseen : (test : RowState → Bool) → test Due ≡ test Undone → (states : ℕ → RowState) (k : ℕ) → states k ≡ Due

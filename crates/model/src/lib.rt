@@ -19,17 +19,17 @@ pub fn law_over_every_run()
     ensures { LawOverEveryRun }
 {}
 
-/// What holds of every sheet, among it that live rows have only committed predecessors.
+/// What holds of every sheet: which numbers have rows, and which states, phases and rollbacks go together.
 pub fn sheets_are_orderly()
     ensures { SheetsAreOrderly }
 {}
 
-/// The computed 'after' is the relation: one or more arrows lead there.
+/// The computed 'after' agrees with the relation: a path of arrows leads there, be it a single one.
 pub fn after_is_reached_by_arrows()
     ensures { AfterIsReachedByArrows }
 {}
 
-/// The struck set of a partial abort is the least set that has the backward part and with a row every committed row after it.
+/// What a partial abort strikes has the backward part, and no committed row outside is after one inside. Each such set holds it.
 pub fn struck_set_is_the_least()
     ensures { StruckSetIsTheLeast }
 {}
@@ -39,12 +39,12 @@ pub fn aborts_fall()
     ensures { AbortsFall }
 {}
 
-/// A listing has exactly the arrows of the compensating graph and the restart points, each once, rising.
+/// What is in a listing: each arrow of the compensating graph and each restart point, none twice, in rising order, and no more.
 pub fn listings_are_exact()
     ensures { ListingsAreExact }
 {}
 
-/// From abort to finish a listing is the same.
+/// As long as a rollback lasts, its listing does not change.
 pub fn listings_stay()
     ensures { ListingsStay }
 {}

@@ -9,7 +9,7 @@ use crate::parts::{Arrow, Step};
 pub mod read;
 
 /// A process whose stored form was accepted: what a sheet needs of it.
-// Its own two lists and no draft: each fact below speaks of them, and a draft is not yet a process.
+// The facts below speak of the two lists.
 #[derive(Drop)]
 pub struct Process {
     steps: Vec<Step>,

@@ -19,7 +19,7 @@ pub(crate) fn bit(word: u32, low: u32) -> bool
 }
 
 /// Two bytes as a number, the most significant first.
-// A function of its own: with its body in `read_step` the check does not find that one's proof.
+// The proof of `read_step` goes by this contract.
 pub(crate) fn word2(a: u8, b: u8) -> u32
     ensures { result ≡ pack two_bytes (a ∷ b ∷ []) }
 {

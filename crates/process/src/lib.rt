@@ -1,4 +1,4 @@
-// A stored process: the reader that hands out its records, and the process that is accepted.
+// A stored process: a reader of its records, and the process that is accepted.
 #![tactic(auto)]
 
 mod accepted;

@@ -4,23 +4,23 @@ use values::{Flow, Kind};
 /// A step of a process: a row of the sheet is started for it.
 #[derive(Clone, Copy, PartialEq, Eq, Debug, Drop)]
 pub struct Step {
-    /// A rollback stops short of its rows.
+    /// The way back of a rollback ends before its rows.
     pub savepoint: bool,
-    /// Its rows can be compensated.
+    /// What its rows did can be taken back.
     pub counterpart: bool,
-    /// What its rows hold is secret.
+    /// Outsiders learn nothing of what its rows hold.
     pub private: bool,
-    /// Whether a row wants one predecessor, or one for each arrow into the step.
+    /// How many rows a row comes after: a single one, or as many as arrows enter the step.
     pub entry: Flow,
-    /// Whether a row is followed by one row, or by one for each arrow out of the step.
+    /// How many rows may come after a row: a single one, or one of each step that arrows lead to.
     pub exit: Flow,
     /// The kind of its rows' entries.
     pub kind: Kind,
 }
 
-/// An arrow from one step to another, or to itself; steps are numbered from 1.
+/// An arrow between two steps, which may be the same; the first step has number 1.
 ///
-/// Arrows are ordered by `from`, then by `to`.
+/// Two are compared by where they begin, and if that is equal by where they end.
 #[derive(Clone, Copy, PartialEq, Eq, PartialOrd, Ord, Debug, Drop)]
 pub struct Arrow {
     pub from: u16,
@@ -34,7 +34,7 @@ pub enum Item<'a> {
         steps: u16,
         arrows: u16,
     },
-    /// `name` is that very part of the input, and `place` its first byte's place there.
+    /// The bytes of `name` are borrowed from the input, where they begin at index `place`.
     Step {
         step: Step,
         name: &'a [u8],

@@ -1,4 +1,4 @@
-// The reader, which hands out the records of a stored process one after another.
+// The reader of stored processes.
 ghost use Rattle.std.specs.Prelude.{◌+◌, ◌^◌, ◌<◌, length};
 
 use crate::cursor::Cursor;

@@ -47,7 +47,7 @@ impl Graph for ArrowGraph<'_> {
 }
 
 impl ArrowGraph<'_> {
-    // Two functions for the two ends: with the end as a closure, both calls and the contract would be longer.
+    // How many arrows leave a step, and how many enter it.
     fn arrows_out(&self, step: usize) -> usize
         ensures { result ≡ ends_at Tail self.now.arrows.now step }
     {
@@ -75,11 +75,11 @@ impl ArrowGraph<'_> {
     fn lowest_unfit(&self, marks: &Marks) -> Option<usize>
         ensures { LowestUnfit (held marks.now) self.now.arrows.now self.now.steps result }
     {
-        // Half open: the library says of `find` over `a..b` which number it is, and not over `a..=b`.
+        // a half-open range: of `find` over one the library says which number it is
         (1..self.steps + 1).find(|step| !self.is_fine(marks, *step))
     }
 
-    /// The lowest step that has more than 8 arrows out or in or is not reached from step 1.
+    /// The lowest step that no way leads to from step 1, or that more than 8 arrows leave, or more than 8 enter.
     pub(crate) fn unfit_step(&self, scratch: &mut Scratch) -> Option<usize>
         requires { roomy_in self.now.steps scratch.old ≡ true }
         ensures shaped { Shaped self.now.arrows.now self.now.steps result }

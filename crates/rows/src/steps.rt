@@ -30,7 +30,7 @@ pub fn step_at(steps: &[Step], number: u16) -> Step
 }
 
 impl RowTable {
-    // The steps are the process's, which a table does not hold: a struct of both would be made anew for each call.
+    // A table does not hold the steps of the process: each of these calls is lent them.
 
     /// Whether a row is one of a step at which a rollback stops.
     pub fn is_savepoint(&self, steps: &[Step], row: u16) -> bool
@@ -44,7 +44,7 @@ impl RowTable {
         ensures { result.items ≡ uncut (steps_only steps.now) (rows_of self.now) row }
     {
         let mut uncut = ArrayVec::new();
-        // an `extend` would answer a result that cannot fail
+        // a row has at most eight predecessors, so that each of these has a place
         for w in self.predecessors(row) {
             if !self.is_savepoint(steps, *w) {
                 uncut.push(*w);

@@ -10,7 +10,7 @@ use host::{Places, Table};
 mod changes;
 pub(crate) mod hosting;
 
-/// A host that takes scores: one record a row, in the order of beginning, in the first 256 records of a table.
+/// A host that takes scores. Each row that begins gets the next free record of a table, of which 256 at most are used.
 #[derive(Drop)]
 pub struct ScoreBook {
     table: Table<Record>,

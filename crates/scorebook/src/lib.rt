@@ -1,4 +1,4 @@
-// The score book: a host that keeps one record a row, in a table that the caller brings.
+// The score book: a host with a record for each row, in a table that it is made with.
 #![tactic(auto)]
 
 mod book;

@@ -21,13 +21,13 @@ mod undos;
 pub use summaries::{RowCounts, Summary};
 
 /// The sheet of one competition: the process that it follows, its rows, and where it stands.
-// no `Model`: its value can hold no functions, and the model's sheet has its rows as functions of their numbers
+// `sheet_of` says what it is in the model, where rows are functions of their numbers
 #[derive(Drop)]
 pub struct Sheet {
     process: Process,
     table: RowTable,
     phase: Phase,
-    // before the first abort 0 and complete, and no options: the model's sheet has them so
+    // number and mode of the last rollback: 0 and complete before the first, as in the model
     rollback: u16,
     serial: u16,
     mode: Mode,

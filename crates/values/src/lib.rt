@@ -23,7 +23,7 @@ pub enum Flow {
     All = 1,
 }
 
-/// What a row holds: a kind, and a number that may be absent, which makes the entry empty.
+/// A score or a fee, by its kind and its number; without a number it is empty.
 #[derive(Clone, Copy, PartialEq, Eq, Debug, Drop)]
 pub struct Entry {
     pub kind: Kind,
@@ -31,7 +31,7 @@ pub struct Entry {
 }
 
 /// The state of a sheet's row; a number that has no row is absent.
-// A case and no option of a state: a reply has a number for it.
+// Absent is one of the states: a reply has a number for it, too.
 #[derive(Clone, Copy, PartialEq, Eq, Debug, Drop)]
 pub enum RowState {
     Absent = 0,
@@ -44,7 +44,7 @@ pub enum RowState {
 }
 
 /// The state of a row at a host.
-// Unknown is a case and no option: a call is declined by comparing states, that one too.
+// Unknown is one of the states that a call compares.
 #[derive(Clone, Copy, PartialEq, Eq, Debug, Drop)]
 pub enum HostState {
     Unknown = 0,
@@ -103,7 +103,7 @@ pub struct Fault {
 }
 
 /// How far an abort rolls back: all committed rows, or what a failing row calls for.
-// No `Option<u16>`: its `None` would not say that all rows are meant.
+// A case for each way: complete, and partial with the failing row.
 #[derive(Clone, Copy, PartialEq, Eq, Debug, Drop)]
 pub enum Mode {
     Complete,
@@ -125,14 +125,14 @@ pub struct RowArrow {
 }
 
 /// What a call on a sheet answers.
-// No result around the accepted answers: they are an enum already, and a call that is declined is one answer more.
+// That the call was declined is one of the answers.
 #[derive(Clone, Copy, PartialEq, Eq, Debug, Drop)]
 pub enum Answer {
     /// A row was started, with this number.
     Row(u16),
     Done,
     Ticket(TicketNumber),
-    /// How many arrows and how many restart points were written.
+    /// What a listing wrote: so many arrows, and so many restart points.
     Listed { arrows: usize, restarts: usize },
     Declined(Fault),
 }

@@ -7,7 +7,7 @@ use std::fmt;
 
 impl Cause {
     /// The cause in words that a secretary understands.
-    // A text and no `Display` of a cause: it needs no formatter, and cannot fail.
+    // One fixed text for each cause.
     pub fn reason(self) -> &'static str
         ensures { result.now ≡ reason self }
     {

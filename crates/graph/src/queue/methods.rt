@@ -10,7 +10,7 @@ fn spot(n: usize, head: usize, count: usize) -> usize
     requires { (head < n) × (count < n) }
     ensures { Spot n (head + count) result }
 {
-    // Not the remainder of a sum: of elements that take no memory there may be so many that the sum does not fit.
+    // The sum of both may not fit: of elements that take no memory there may be that many.
     let ahead = n - head;
     if count < ahead {
         head + count

@@ -20,7 +20,7 @@ impl Ledger {
         self.table.used()
     }
 
-    /// Posts less contras, which is the sum of the fees that stand.
+    /// What the posts come to without the contras: so much are the fees that stand, all together.
     pub fn balance(&self) -> i64
         ensures posts { result ≡ posted (lines_of self.now) }
         ensures stands { result ≡ standing_sum (known_by (ledger_view self.now)) }

@@ -126,7 +126,7 @@ impl Host for Ledger {
     }
 }
 
-// One impl for each book: an impl for every host with no controls would overlap those of Pair and Switch.
+// Nothing shuts or opens the book.
 impl Controls for Ledger {
     type Command = NoCommand;
 

@@ -13,10 +13,10 @@ use graph::marks::Marks;
 use graph::scratch::Scratch;
 use values::{Cause, Fault, Layer};
 
-/// How many bytes of the column reading wants.
+/// The least length of a column for reading.
 pub const COLUMN: usize = 257;
 
-/// How many numbers of the line reading wants.
+/// The least length of a line for reading.
 pub const LINE: usize = 256;
 
 impl Process {
@@ -36,7 +36,7 @@ impl Process {
         self.steps.as_slice()
     }
 
-    /// The arrows, rising by from, then to.
+    /// The arrows, from the least to the greatest.
     pub fn arrows(&self) -> &[Arrow]
         ensures { result.now ≡ (tables_of self.now).1 }
     {
@@ -44,14 +44,14 @@ impl Process {
     }
 }
 
-/// Whether a column and a line are as long as reading wants them.
+/// Whether a column and a line are long enough for reading.
 pub fn is_enough(column: &[u8], line: &[u16]) -> bool
     ensures { result ≡ enough (length column.now) (length line.now) }
 {
     COLUMN <= column.len() && LINE <= line.len()
 }
 
-/// Reads with memory enough: the records from left to right, and then the steps.
+/// Reads with memory enough: record after record, and then the steps are checked.
 fn read_with(input: &[u8], tables: Tables, scratch: &mut Scratch) -> Result<Process, Fault>
     requires { enough (length (held scratch.old.marks.now)) (length scratch.old.line.now) ≡ true }
     ensures reading { Reading input.now result }
@@ -70,7 +70,7 @@ fn read_with(input: &[u8], tables: Tables, scratch: &mut Scratch) -> Result<Proc
 
 /// Reads a stored process into the tables.
 ///
-/// Wants a column of 257 bytes and a line of 256 numbers, and looks at no byte of the input before it has them.
+/// Where the column has fewer than 257 bytes or the line fewer than 256 numbers, no byte of the input is looked at.
 pub fn read(
     input: &[u8],
     tables: Tables,

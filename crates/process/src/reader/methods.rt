@@ -48,7 +48,7 @@ impl<'a> Reader<'a> {
         }))
     }
 
-    // `progress` comes from the match in `next`: looked up here, it would want an answer for a reader before its header.
+    // `progress` is what the match in `next` found.
     fn step(&mut self, progress: Progress) -> Result<Option<Item<'a>>, Fault>
         requires progress { self.old.cursor.progress ≡ Some progress }
         requires left { 0 < progress.steps_left }
@@ -94,7 +94,7 @@ impl<'a> Reader<'a> {
 
     /// The next record, or `None` once there is none and no byte is left over; a fault leaves
     /// the reader where it stands.
-    // No `Iterator`: after a fault the next call answers the same fault, so a `for` over it would never end.
+    // After a fault each further call answers the same fault.
     pub fn next(&mut self) -> Result<Option<Item<'a>>, Fault>
         ensures { Handed (expected self.old.cursor) self.old result self.new }
     {

@@ -47,7 +47,7 @@ impl Reader<'_> {
     }
 
     /// A step, and how long the name is that follows its two bytes.
-    // A pair: a struct of the two would be made here, and taken apart again by the one caller.
+    // By that length the caller passes the record and cuts the name out of it.
     pub(crate) fn read_step(&self) -> Result<(Step, usize), Fault>
         ensures answer { result ≡ answer (first_fault (checks StepRecord self.now.rest.now self.now.cursor))
             (step_of (word2 self.now.rest.now), name_length self.now.rest.now) }

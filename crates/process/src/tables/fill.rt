@@ -27,7 +27,7 @@ impl Draft {
     }
 }
 
-/// The tables filled with the records of the input, or the first fault from left to right.
+/// The tables with all records of the input in them, or the fault that the reader comes to first.
 pub(crate) fn filled(input: &[u8], tables: Tables) -> Result<Draft, Fault>
     ensures { MatchResult result (Filled input.now) (λ f. Scan input.now (Err f)) }
 {

@@ -25,7 +25,7 @@ fn fallen(state: RowState, idle: bool) -> RowState
 }
 
 impl RowTable {
-    // Whether there is nothing to compensate in a row: its step has no counterpart, or is public and the entry is empty.
+    // Whether a row has nothing to take back: an empty entry at a public step, or a step that cannot be compensated.
     fn is_idle(&self, steps: &[Step], row: u16) -> bool
         ensures { result ≡ idle (steps.now, []) (rows_of self.now) row }
     {
@@ -33,7 +33,7 @@ impl RowTable {
         !step.counterpart || !step.private && self.entry(row).number.is_none()
     }
 
-    // Whether a row is live: running or committed.
+    // Whether a row runs or is committed.
     fn is_live(&self, row: u16) -> bool
         ensures { result ≡ live ((rows_of self.now).state row) }
     {
@@ -47,7 +47,7 @@ impl RowTable {
             ≡ (λ k. cond (k == row && live ((rows_of self.old).state k)) number (rolled_of self.old k)) }
     {
         if self.is_live(row) {
-            // the row is there: a `get_mut` would look again
+            // a live row is in the table
             self.rows[row as usize - 1].rolled = number;
         }
     }
@@ -65,8 +65,8 @@ impl RowTable {
         self.set_state(row, to);
     }
 
-    /// Takes the rows back that an abort drops or strikes: running rows are dropped, and of the committed rows that are
-    /// struck the idle ones are passed over and the others due. All of them get the rollback's number.
+    /// The rows after an abort: what ran is dropped, and a committed row of `struck` is due, or passed over where it is idle.
+    /// Each row that is changed so gets the rollback's number.
     pub fn fall(&mut self, steps: &[Step], struck: &RowSet, number: u16)
         ensures rows { rows_of self.new ≡ with_states (rows_of self.old)
             (λ k. fallen ((rows_of self.old).state k)

@@ -57,7 +57,7 @@ impl RowTable {
         if from == RowState::Absent {
             return;
         }
-        // the row is there: a `get_mut` would look again
+        // a row that is not absent is in the table
         self.rows[number as usize - 1].state = to;
         put_in(&mut self.sets.states, from, number, false);
         put_in(&mut self.sets.states, to, number, true);

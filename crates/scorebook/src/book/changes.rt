@@ -11,7 +11,7 @@ use host::{ROWS, RowKey};
 use values::HostState;
 
 impl ScoreBook {
-    /// The records in use, in the order of their beginning.
+    /// The records in use, the oldest first.
     pub fn records(&self) -> &[Record]
         ensures records { result.now ≡ records_of self.now }
         ensures scores { scores result.now ≡ true }

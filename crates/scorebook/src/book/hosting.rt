@@ -111,7 +111,7 @@ impl Host for ScoreBook {
     }
 }
 
-// One impl for each book: an impl for every host with no controls would overlap those of Pair and Switch.
+// Nothing shuts or opens the book.
 impl Controls for ScoreBook {
     type Command = NoCommand;
 

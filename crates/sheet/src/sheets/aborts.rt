@@ -33,7 +33,7 @@ impl Sheet {
         Ok(())
     }
 
-    // Drops all running rows at the host.
+    // Has the host drop each row that runs.
     fn drop_running<X: Host>(&self, host: &mut X)
         requires { Droppable (sheet_of self.now).rows (X.Host.view host.old) }
         ensures drops { X.Host.view host.new ≡ all_dropped (sheet_of self.now).rows (X.Host.view host.old) }
@@ -116,8 +116,8 @@ impl Sheet {
         Ok(self.current())
     }
 
-    /// Rolls back, all of it or what a failing row calls for: running rows are dropped, on the sheet and at the host, and
-    /// struck rows are due or passed over. Gives the ticket of the rollback.
+    /// Begins a rollback, of everything or of what a failing row calls for, and gives its ticket: struck rows are due or passed
+    /// over, and what ran is dropped, at the host too.
     pub fn abort<X: Host>(
         &mut self,
         host: &mut X,

@@ -12,7 +12,7 @@ use host::{Host, row_key};
 use values::{Cause, Fault, Layer, Phase, RowState};
 
 impl Sheet {
-    // Declines a call on a row that is not in the state that it wants.
+    // Declines a call for which the row would have to be in this state.
     pub(crate) fn wants_row(&self, state: RowState, row: u16) -> Result<(), Fault>
         ensures { result ≡ answer (row_check (sheet_of self.now).rows state row) tt }
     {
@@ -29,7 +29,7 @@ impl Sheet {
         self.wants_row(RowState::Running, row)
     }
 
-    /// Commits a running row at the host, and marks it.
+    /// Ends a row that runs: the host commits it, and the sheet has it as committed.
     pub fn end<X: Host>(&mut self, host: &mut X, row: u16) -> Result<(), Fault>
         ensures comes { Ends (sheet_of self.old) (X.Host.view host.old) row result
             (sheet_of self.new) (X.Host.view host.new) }

@@ -27,7 +27,7 @@ use values::{Cause, Fault, Layer, Mode, Phase, RowArrow, RowState};
 // Each function that puts something into a table gives the next place of it. A table that is too short is written as far as
 // it goes, so with an empty one the same functions count.
 
-// Where the competition may go on: at the start, and at the savepoints that stopped the way back.
+// Where the competition may go on: whether at the start, and at which savepoints.
 #[derive(Clone, Copy, Drop)]
 struct Points {
     start: bool,
@@ -35,7 +35,7 @@ struct Points {
 }
 
 impl Points {
-    // Puts them, rising; the start has number 0.
+    // Puts them: 0 for the start, and then the savepoints, the lowest first.
     fn put(self, table: &mut [u16]) -> usize
         ensures { Puts (listed self) 0 table.old result table.new }
     {
@@ -107,7 +107,7 @@ impl Sheet {
         savepoints
     }
 
-    // The savepoints that stopped the way back from the failing row, and are still committed.
+    // The committed savepoints at which the way back from the failing row ended.
     fn stops(&self, f: u16, behind: &RowSet) -> RowSet
         requires { HasBehind (chart_of self.now) (sheet_of self.now).rows f behind.now }
         ensures { (w : ℕ) → contains result w ≡ stopped (chart_of self.now) (sheet_of self.now).rows f w }
@@ -129,7 +129,7 @@ impl Sheet {
         behind
     }
 
-    // The restart points of a partial abort: the start, if the way back came to it, and the savepoints that stopped it.
+    // The restart points of a partial abort: the savepoints where the way back ended, and the start where it got there.
     fn points_from(&self, f: u16, scratch: &mut Scratch) -> Points
         requires { enough (length (held scratch.old.marks.now)) (length scratch.old.line.now) ≡ true }
         ensures points { listed result ≡ restart_points (chart_of self.now) (sheet_of self.now).rows (Partial f) }
@@ -194,8 +194,8 @@ impl Sheet {
         Ok((arrow_count, restart_count))
     }
 
-    /// Writes the arrows of the compensating graph, rising, and the restart points, rising, into two tables, and says how
-    /// many of each.
+    /// Fills one table from the front with the arrows of the compensating graph, and one with the restart points, both in
+    /// rising order, and says how far each is filled.
     pub fn listing(
         &self,
         column: &mut [u8],

@@ -83,7 +83,7 @@ impl Sheet {
         Ok(self.current())
     }
 
-    /// Ends the rollback, where no row is due any more. A declined call hands the ticket back.
+    /// Ends the rollback, where no row is due any more. With a fault the same ticket comes back.
     pub fn finish(&mut self, ticket: Ticket) -> Result<(), (Ticket, Fault)>
         ensures comes { Leaves (finish_fault (sheet_of self.old) ticket.number) ticket (sheet_of self.old)
             (with_phase (sheet_of self.old) Forward) result (sheet_of self.new) }
@@ -96,7 +96,7 @@ impl Sheet {
         Ok(())
     }
 
-    /// Parks the rollback. A declined call hands the ticket back.
+    /// Parks the rollback. With a fault the same ticket comes back.
     pub fn park(&mut self, ticket: Ticket) -> Result<(), (Ticket, Fault)>
         ensures comes { Leaves (park_fault (sheet_of self.old) ticket.number) ticket (sheet_of self.old)
             (with_phase (sheet_of self.old) Parked) result (sheet_of self.new) }

@@ -21,7 +21,7 @@ const STEPS: u16 = 64;
 /// What is shown of a private step.
 const PRIVATE: u8 = 7;
 
-// The functions below are lent the bytes from the place of the reply on, and keep those behind it.
+// Below, `bytes` begins with the reply; what stands behind it stays.
 
 // Sets the field of a step: 3 bits, behind the first 32 and the fields of the steps before it.
 fn set_step(bytes: &mut [u8], step: u16, value: u8)
@@ -68,8 +68,7 @@ impl Sheet {
         }
     }
 
-    // Writes the state of the highest row of a step, unless that is private. No fact of a sheet says that the step has a
-    // field.
+    // Writes the state of a row that is the highest of its step, if the step is one that has a field, and is not private.
     fn write_row(&self, row: u16, bytes: &mut [u8])
         requires room { 32 ≤ length bytes.old }
         requires highest { is_highest (sheet_of self.now).rows row ≡ true }
@@ -106,7 +105,7 @@ impl Sheet {
         self.write_rows(bytes);
     }
 
-    /// Writes the 32 bytes of a reply at a place of a buffer.
+    /// Puts the reply into a buffer, where its 32 bytes begin at `place`.
     pub fn reply(&self, place: usize, buffer: &mut [u8]) -> Result<(), Fault>
         ensures { Replies (chart_of self.now) (sheet_of self.now) place buffer.old result buffer.new }
     {

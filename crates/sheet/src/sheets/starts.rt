@@ -38,7 +38,7 @@ fn uses_exit(exit: Flow, of: u16, step: u16) -> bool
 }
 
 impl Candidate<'_> {
-    // Whether it has as many predecessors as it wants: of step 1 none, else by the step's entry one, or one for each arrow.
+    // Whether its predecessors are as many as its step asks for: 0 for step 1, else 1 or the number of arrows in, by its flow.
     fn counts(&self) -> bool
         ensures { result ≡ counted self.now }
     {
@@ -64,8 +64,8 @@ impl Candidate<'_> {
             && is_arrow(&self.sheet.process, table.step(row), self.step)
     }
 
-    // The first predecessor that it cannot follow: one that is not committed or has no arrow to the step, or is of the step
-    // of an earlier one.
+    // The first predecessor that does not fit: no arrow leads from its step to the candidate's, or it is not committed, or
+    // another of the same step comes before it.
     fn first_unfit(&self) -> Option<usize>
         ensures { result ≡ first_below (length self.now.predecessors.now) (unfit self.now) }
     {
@@ -102,7 +102,7 @@ impl Candidate<'_> {
         found
     }
 
-    // The first predecessor whose exit is used: by any live row after it by one arrow, or by one of the candidate's step.
+    // The first predecessor without a branch for the candidate: a live follower took its only branch, or this one.
     fn first_used(&self) -> Option<usize>
         ensures { result ≡ first_below (length self.now.predecessors.now) (used self.now) }
     {
@@ -121,7 +121,7 @@ impl Candidate<'_> {
         found
     }
 
-    // Whether its entry is of the step's kind, and in range.
+    // Whether its entry suits the step: its kind is the step's, and a number, if it has one, is in range.
     fn is_lawful(&self) -> bool
         ensures { result ≡ fair self.now }
     {
@@ -129,7 +129,7 @@ impl Candidate<'_> {
         self.entry.kind == kind && self.entry.is_in_range()
     }
 
-    // Whether the number of predecessors is wrong, or step 1 would start on a sheet with live rows.
+    // Whether it has too few or too many predecessors, or would be a row of step 1 beside others that are live.
     fn is_miscounted(&self) -> bool
         ensures { result ≡ (not (counted self.now)
             || (self.now.step == 1 && any_live (sheet_for self.now).rows)) }
@@ -177,7 +177,7 @@ impl Sheet {
         Ok(())
     }
 
-    /// Starts a row of a step after some rows: begins it at the host, and answers its number.
+    /// Adds a running row of a step, with these predecessors, and has the host begin it. Answers which row it is.
     pub fn start<X: Host>(
         &mut self,
         host: &mut X,
