@@ -1,5 +1,5 @@
 -- Rows stay where they belong, whatever events a competition takes. Assumes nothing.
-use Rattle.std.proofs.Common.{List, sym, subst, Option, Result}
+use Rattle.std.proofs.Common.{Bool, List, sym, subst, Option, Result}
 use Rattle.values.specs.declared.Fault.{Fault}
 use Rattle.host.specs.View.{View, Sound}
 use Rattle.host.specs.Known.{Known, known_by, Sorted, HoldsWhatItShows, StaysSorted, MovesNoRow}
@@ -23,7 +23,7 @@ module _ {X : Type 0} (view : X → View) (holds : X → Known → Type 0) (soun
       subst (holds y.host) (follows_knows (sheet_of y.sheet) (view y.host) (view x.host) (sound y.host) (sound x.host) follows) (keeps sorted)
 
   module _ {C : Type 0} (makes : X → Call → Result (Unit {0}) Fault → X → Type 0) (goes : X → X → Type 0)
-      (declines : X → C → Option Fault) (leaves : X → C → X → Type 0)
+      (declines : X → C → Option Fault) (shuts : X → C → Bool) (leaves : X → C → X → Type 0)
       (stays_sorted : StaysSorted view holds goes) (moves_no_row : MovesNoRow holds leaves) where
     abbrev Keeps : X → X → Type 0
     Keeps x y = Sorted view holds x → Sorted view holds y
@@ -35,9 +35,9 @@ module _ {X : Type 0} (view : X → View) (holds : X → Known → Type 0) (soun
 
     pub host_sorts : (c : Option C) (asks : List Call) (x y : X) → HostAfter view makes goes declines leaves x c asks y → Keeps x y
     host_sorts =
-        host_keeps view makes goes declines leaves Keeps (λ x s. s) (λ x y z p q s. q (p s)) stays_sorted commands_keep
+        host_keeps view makes goes declines shuts leaves Keeps (λ x s. s) (λ x y z p q s. q (p s)) stays_sorted commands_keep
 
-    pub taken_sorts : {first last : Competition X} {h : List (Event C × Taken)} → TakesAll view makes goes declines leaves first h last
+    pub taken_sorts : {first last : Competition X} {h : List (Event C × Taken)} → TakesAll view makes goes declines shuts leaves first h last
         → Keeps first.host last.host
     taken_sorts a =
-        taken_keeps view makes goes declines leaves Keeps (λ x s. s) (λ x y z p q s. q (p s)) stays_sorted commands_keep a
+        taken_keeps view makes goes declines shuts leaves Keeps (λ x s. s) (λ x y z p q s. q (p s)) stays_sorted commands_keep a

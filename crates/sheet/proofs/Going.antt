@@ -1,5 +1,5 @@
 -- What events carry on. Assumes nothing.
-use Rattle.std.proofs.Common.{◌≡◌, ℕ, ◌+◌, ◌<◌, List, [], ◌∷◌, ◌++◌, length, get_or, set, take, Some, None, Option, Result, sym, refl, ap, ◌∙◌, subst, arith}
+use Rattle.std.proofs.Common.{◌≡◌, ℕ, ◌+◌, ◌<◌, Bool, List, [], ◌∷◌, ◌++◌, length, get_or, set, take, Some, None, Option, Result, sym, refl, ap, ◌∙◌, subst, arith}
 use Rattle.std.specs.List.{zip}
 use Rattle.std.proofs.lemmas.List.{append-nil, append_assoc, length-take-le, map-append, take_more_set}
 use Rattle.values.specs.declared.Answer.{Answer}
@@ -52,16 +52,16 @@ module _ {C : Type 0} where
   zip_more (x ∷ es) (u ∷ ts) t e low at = ap (λ l. (x, u) ∷ l) (zip_more es ts t e (omega (arith, low)) at)
 
   module _ {X : Type 0} (view : X → View) (makes : X → Call → Result (Unit {0}) Fault → X → Type 0) (goes : X → X → Type 0)
-      (declines : X → C → Option Fault) (leaves : X → C → X → Type 0) where
+      (declines : X → C → Option Fault) (shuts : X → C → Bool) (leaves : X → C → X → Type 0) where
     abbrev TakesSo : Competition X → List (Event C × Taken) → Competition X → Type 0
-    TakesSo = TakesAll view makes goes declines leaves
+    TakesSo = TakesAll view makes goes declines shuts leaves
 
     pub taken_none : (first : Competition X) (es : List (Event C)) (places : List Taken) → TakesSo first (zip es (take 0 places)) first
     taken_none first es places = subst (λ l. TakesSo first l first) (sym (zip_none es)) takes_nothing
 
     -- one event more, told of in the next place
     pub taken_more : (first x y : Competition X) (es : List (Event C)) (places : List Taken) (i : ℕ) (e : Event C) (t : Taken)
-        → i < length es → i < length places → e ≡ get_or es i e → Takes view makes goes declines leaves x e t y
+        → i < length es → i < length places → e ≡ get_or es i e → Takes view makes goes declines shuts leaves x e t y
         → TakesSo first (zip es (take i places)) x → TakesSo first (zip es (take (i + 1) (set places i t))) y
     taken_more first x y es places i e t low room is one so_far =
         let size : length (take i places) ≡ i = length-take-le i places (omega (arith, room)) in

@@ -1,4 +1,4 @@
--- A call bs the event that it is. Assumes nothing.
+-- A call is the event that it is. Assumes nothing.
 use Rattle.std.proofs.Common.{◌≡◌, ℕ, List, length, Some, None, Option, Result, sym, refl, ap, ◌∙◌, subst, Vec}
 use Rattle.std.specs.Vec.{with_items}
 use Rattle.std.proofs.lemmas.List.{with_items_is}

@@ -1,7 +1,9 @@
-// Calls as values.
-ghost use Rattle.std.specs.Prelude.{◌≡◌};
+// Events as values, and what comes of them.
+ghost use Rattle.std.specs.Prelude.{◌≡◌, min, length};
 ghost use Rattle.sheet.specs.Happenings.{told_by};
+ghost use Rattle.sheet.specs.Runs.{Ended};
 
+use std::alloc::AllocError;
 use values::{Answer, Entry, Fault, Mode, TicketNumber};
 
 /// The lengths of the memory that is lent to calls.
@@ -80,4 +82,34 @@ impl Taken {
     {
         self.refused.map_or(self.answer, Answer::Declined)
     }
+}
+
+/// Why no more events of a list were taken: there were no more, no more places to tell of them, or no memory for the next one.
+#[derive(Clone, Copy, PartialEq, Eq, Debug, Drop)]
+pub enum End {
+    Events,
+    Places,
+    /// The next event lends other memory.
+    Memory(AllocError),
+}
+
+impl End {
+    // Of events that were taken as far as so many places go.
+    pub(crate) fn at_most<C>(events: &[Event<C>], places: usize) -> End
+        ensures { Ended result events.now places (min (length events.now) places) }
+    {
+        if events.len() <= places {
+            End::Events
+        } else {
+            End::Places
+        }
+    }
+}
+
+/// How far the events of a list were taken.
+#[derive(Clone, Copy, PartialEq, Eq, Debug, Drop)]
+pub struct Replayed {
+    /// How many were taken. So many of the lent places say what came of each.
+    pub taken: usize,
+    pub end: End,
 }

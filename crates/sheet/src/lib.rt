@@ -10,8 +10,8 @@ mod sheets;
 mod tables;
 mod ticket;
 
-pub use events::{Event, Sizes, Taken};
+pub use events::{End, Event, Replayed, Sizes, Taken};
 pub use memory::Memory;
-pub use replay::{Competition, Replayed};
+pub use replay::Competition;
 pub use sheets::{RowCounts, Sheet, Summary};
 pub use ticket::Ticket;

@@ -1,5 +1,5 @@
 // A competition, event after event.
-ghost use Rattle.std.specs.Prelude.{◌≡◌, ◌≢◌, true, min, [], ◌∷◌, length, take, drop, None, IfOk, IfErr, OnErr};
+ghost use Rattle.std.specs.Prelude.{◌≡◌, true, [], ◌∷◌, length, take, drop, IfOk, IfErr, OnErr};
 ghost use Rattle.std.specs.List.{zip};
 ghost use Rattle.host.specs.Known.{Sorted};
 ghost use Rattle.host.specs.View.{Fresh};
@@ -7,9 +7,9 @@ ghost use Rattle.model.specs.Run.{world};
 ghost use Rattle.sheet.specs.Happenings.{history_of, lends};
 ghost use Rattle.sheet.specs.Lent.{lent_of};
 ghost use Rattle.sheet.specs.SheetOf.{sheet_of, chart_of};
-ghost use Rattle.sheet.specs.Runs.{world_of, process_of, Takes, TakesAll, GoesOn, Belong, RanOut};
+ghost use Rattle.sheet.specs.Runs.{world_of, process_of, Takes, TakesAll, GoesOn, Belong, Ended};
 
-use crate::events::{Event, Taken};
+use crate::events::{End, Event, Replayed, Taken};
 use crate::memory::Memory;
 use crate::sheets::Sheet;
 use host::{Controls, Host};
@@ -78,20 +78,11 @@ impl<X: Host> Competition<X> {
     }
 }
 
-/// How far the events of a list were taken.
-#[derive(Clone, Copy, PartialEq, Eq, Debug, Drop)]
-pub struct Replayed {
-    /// How many were taken. So many of the lent places say what came of each.
-    pub taken: usize,
-    /// Set where memory ran out before the next event, which lends other memory. Else all were taken, or the places ended.
-    pub stopped: Option<AllocError>,
-}
-
 impl<X: Controls> Competition<X> {
     /// Takes one event: a call is made, other memory is lent, or the host is commanded. Only where other memory is to be lent may
     /// memory run out, and then nothing changes.
     pub fn take(&mut self, heap: Global, event: &Event<X::Command>) -> Result<Taken, AllocError>
-        ensures takes { IfOk result (λ t. Takes X.Host.view X.Host.makes X.Host.goes X.Controls.declines X.Controls.leaves
+        ensures takes { IfOk result (λ t. Takes X.Host.view X.Host.makes X.Host.goes X.Controls.declines X.Controls.shuts X.Controls.leaves
             self.old event.now t self.new) }
         ensures law { IfOk result (λ t. GoesOn (process_of self.old) (world_of X.Host.view self.old)
             (history_of (event.now ∷ []) (t ∷ [])) (world_of X.Host.view self.new)) }
@@ -118,15 +109,14 @@ impl<X: Controls> Competition<X> {
         events: &[Event<X::Command>],
         places: &mut [Taken],
     ) -> Replayed
-        ensures takes { TakesAll X.Host.view X.Host.makes X.Host.goes X.Controls.declines X.Controls.leaves
+        ensures takes { TakesAll X.Host.view X.Host.makes X.Host.goes X.Controls.declines X.Controls.shuts X.Controls.leaves
             self.old (zip events.now (take result.taken places.new)) self.new }
         ensures law { GoesOn (process_of self.old) (world_of X.Host.view self.old)
             (history_of events.now (take result.taken places.new)) (world_of X.Host.view self.new) }
         ensures sorted { Sorted X.Host.view X.Host.holds self.old.host → Sorted X.Host.view X.Host.holds self.new.host }
         ensures belong { Belong X.Host.view X.Host.holds self.old self.new }
         ensures rest { drop result.taken places.new ≡ drop result.taken places.old }
-        ensures all { result.stopped ≡ None → result.taken ≡ min (length events.now) (length places.old) }
-        ensures out { (result.stopped ≢ None) → RanOut events.now (length places.old) result.taken }
+        ensures end { Ended result.end events.now (length places.old) result.taken }
         ensures process { process_of self.new ≡ process_of self.old }
     {
         let most = events.len().min(places.len());
@@ -136,14 +126,14 @@ impl<X: Controls> Competition<X> {
                 Err(error) => {
                     return Replayed {
                         taken: i,
-                        stopped: Some(error),
+                        end: End::Memory(error),
                     };
                 }
             }
         }
         Replayed {
             taken: most,
-            stopped: None,
+            end: End::at_most(events, places.len()),
         }
     }
 }

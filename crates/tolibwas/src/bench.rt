@@ -6,7 +6,7 @@ use journal::{
 };
 use process::tables::Tables;
 use process::{COLUMN, LINE, Process};
-use sheet::{Competition, Memory, Sheet, Taken};
+use sheet::{Competition, End, Memory, Sheet, Taken};
 use std::process::ExitCode;
 use std::time::{Duration, Instant};
 use values::Fault;
@@ -79,7 +79,7 @@ impl Course {
         let start = Instant::now(rt)?;
         let replayed = competition.replay(rt.alloc(), &self.events, &mut taken);
         let spent = start.elapsed(rt)?;
-        if let Some(error) = replayed.stopped {
+        if let End::Memory(error) = replayed.end {
             return Err(error.into());
         }
         let calls = CallCounts::of(&self.events, &taken);

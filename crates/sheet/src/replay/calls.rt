@@ -11,7 +11,7 @@ use crate::memory::Memory;
 use host::Host;
 use values::{Answer, Entry, Mode, TicketNumber};
 
-// A journal shows a ticket by its numbers, so these calls are made by them.
+// An event shows a ticket by its numbers, so these calls are made by them.
 impl<X: Host> Competition<X> {
     pub(crate) fn start(&mut self, step: u16, predecessors: &[u16], entry: Entry) -> Answer
         ensures does { Does (process_of self.old) (world_of X.Host.view self.old) (start step predecessors.now entry)

@@ -1,12 +1,12 @@
 // An event: a call, other memory, or a command for the host.
 ghost use Rattle.std.specs.Prelude.{◌≡◌, true, IfOk, IfErr, OnErr};
 ghost use Rattle.values.specs.declared.Answer.TheVariants.{Done};
-ghost use Rattle.host.specs.Commands.{Controlled};
+ghost use Rattle.host.specs.Commands.{Controlled, shown_after};
 ghost use Rattle.model.specs.Run.{lend, control};
 ghost use Rattle.sheet.specs.Asked.{event_asks};
 ghost use Rattle.sheet.specs.Happenings.{happening, command_of, refused_by, lends};
 ghost use Rattle.sheet.specs.Lent.{zeros};
-ghost use Rattle.sheet.specs.Runs.{world_of, process_of, Does, HostAfter};
+ghost use Rattle.sheet.specs.Runs.{world_of, process_of, Does, HostAfter, ShownAfter};
 
 use super::Competition;
 use crate::events::{Event, Sizes};
@@ -33,6 +33,8 @@ impl<X: Controls> Competition<X> {
             Done (world_of X.Host.view self.new) }
         ensures left { Controlled (X.Controls.declines self.old.host command.now) X.Controls.leaves
             self.old.host command.now self.new.host }
+        ensures shown { X.Host.view self.new.host ≡ shown_after (X.Controls.declines self.old.host command.now)
+            (X.Controls.shuts self.old.host command.now) (X.Host.view self.old.host) }
         ensures refused { result ≡ X.Controls.declines self.old.host command.now }
         ensures process { process_of self.new ≡ process_of self.old }
     {
@@ -50,6 +52,8 @@ impl<X: Controls> Competition<X> {
         ensures host { IfOk result (λ _. HostAfter X.Host.view X.Host.makes X.Host.goes X.Controls.declines X.Controls.leaves
             self.old.host (command_of event.now) (event_asks (process_of self.old) (world_of X.Host.view self.old)
             (happening (X.Host.view self.new.host).shut event.now)) self.new.host) }
+        ensures shown { IfOk result (λ _. ShownAfter X.Host.view X.Controls.declines X.Controls.shuts
+            self.old.host (command_of event.now) self.new.host) }
         ensures refused { IfOk result (λ a. a.1 ≡ refused_by X.Controls.declines self.old.host (command_of event.now)) }
         ensures lends { IfErr result (λ _. lends event.now ≡ true) }
         ensures same { OnErr result (self.new ≡ self.old) }

@@ -10,12 +10,11 @@ ghost use Rattle.model.specs.Calls.{mode_check, all_dropped};
 ghost use Rattle.host.specs.Made.{Made};
 ghost use Rattle.sheet.specs.Asked.{abort_asks, drops};
 ghost use Rattle.sheet.specs.Calls.{abort_own_checks, drop_checks, Droppable};
-ghost use Rattle.sheet.specs.Tickets.{Aborts, AbortsNumbered};
+ghost use Rattle.sheet.specs.Tickets.{AbortsNumbered};
 ghost use Rattle.sheet.specs.SheetOf.{sheet_of, chart_of};
 
 use super::Sheet;
 use crate::memory::wants_memory;
-use crate::ticket::Ticket;
 use graph::marks::Marks;
 use graph::scratch::Scratch;
 use host::{Host, row_key};
@@ -64,7 +63,7 @@ impl Sheet {
         self.may_drop_running(host)
     }
 
-    // Takes back what the abort strikes: the marks first, then the running rows at the host, then all rows of the sheet.
+    // Takes back what the abort strikes: first which rows, then the running rows at the host, then all rows of the sheet.
     fn roll_back<X: Host>(&mut self, host: &mut X, mode: Mode, scratch: &mut Scratch)
         requires may { first_fault (abort_own_checks (sheet_of self.old) (X.Host.view host.old) mode) ≡ None }
         requires room { enough (length (held scratch.old.marks.now)) (length scratch.old.line.now) ≡ true }
@@ -114,27 +113,5 @@ impl Sheet {
         };
         self.roll_back(host, mode, &mut scratch);
         Ok(self.current())
-    }
-
-    /// Begins a rollback, of everything or of what a failing row calls for, and gives its ticket: struck rows are due or passed
-    /// over, and what ran is dropped, at the host too.
-    pub fn abort<X: Host>(
-        &mut self,
-        host: &mut X,
-        mode: Mode,
-        column: &mut [u8],
-        line: &mut [u16],
-    ) -> Result<Ticket, Fault>
-        ensures comes { Aborts (chart_of self.old) (sheet_of self.old) (X.Host.view host.old) mode
-            (length column.old) (length line.old) result (sheet_of self.new) (X.Host.view host.new) }
-        ensures made { Made X.Host.view X.Host.makes host.old (abort_asks (sheet_of self.old) (X.Host.view host.old) mode
-            (length column.old) (length line.old)) host.new }
-        ensures goes { X.Host.goes host.old host.new }
-        ensures process { self.new.process ≡ self.old.process }
-        ensures column { column.new ≡ column_after column.old (length line.old) }
-        ensures line { enough (length column.old) (length line.old) ≡ false → line.new ≡ line.old }
-    {
-        let number = self.abort_numbered(host, mode, column, line)?;
-        Ok(Ticket::new(number))
     }
 }

@@ -2,13 +2,12 @@
 ghost use Rattle.std.specs.Prelude.{◌≡◌, [], ◌∷◌};
 ghost use Rattle.values.specs.Checks.{answer, first_fault};
 ghost use Rattle.values.specs.declared.Phase.TheVariants.{Forward, Undoing, Parked};
-ghost use Rattle.model.specs.Calls.{phase_check, ticket_check, finish_fault, park_fault, resume_fault};
+ghost use Rattle.model.specs.Calls.{phase_check, ticket_check, finish_fault, park_fault};
 ghost use Rattle.model.specs.Sheet.{ticket_of, with_phase};
 ghost use Rattle.sheet.specs.SheetOf.{sheet_of};
-ghost use Rattle.sheet.specs.Tickets.{Turns, Leaves, ResumesNumbered, Resumes};
+ghost use Rattle.sheet.specs.Tickets.{Turns, ResumesNumbered};
 
 use super::Sheet;
-use crate::ticket::Ticket;
 use values::{Cause, Fault, Layer, Phase, RowState, TicketNumber};
 
 impl Sheet {
@@ -81,40 +80,5 @@ impl Sheet {
         self.wants(Phase::Parked)?;
         self.phase = Phase::Undoing;
         Ok(self.current())
-    }
-
-    /// Ends the rollback, where no row is due any more. With a fault the same ticket comes back.
-    pub fn finish(&mut self, ticket: Ticket) -> Result<(), (Ticket, Fault)>
-        ensures comes { Leaves (finish_fault (sheet_of self.old) ticket.number) ticket (sheet_of self.old)
-            (with_phase (sheet_of self.old) Forward) result (sheet_of self.new) }
-        ensures process { self.new.process ≡ self.old.process }
-    {
-        if let Err(fault) = self.finish_numbered(ticket.number()) {
-            return Err((ticket, fault));
-        }
-        ticket.spend();
-        Ok(())
-    }
-
-    /// Parks the rollback. With a fault the same ticket comes back.
-    pub fn park(&mut self, ticket: Ticket) -> Result<(), (Ticket, Fault)>
-        ensures comes { Leaves (park_fault (sheet_of self.old) ticket.number) ticket (sheet_of self.old)
-            (with_phase (sheet_of self.old) Parked) result (sheet_of self.new) }
-        ensures process { self.new.process ≡ self.old.process }
-    {
-        if let Err(fault) = self.park_numbered(ticket.number()) {
-            return Err((ticket, fault));
-        }
-        ticket.spend();
-        Ok(())
-    }
-
-    /// Takes a parked rollback up again, and gives its ticket.
-    pub fn resume(&mut self) -> Result<Ticket, Fault>
-        ensures comes { Resumes (sheet_of self.old) result (sheet_of self.new) }
-        ensures process { self.new.process ≡ self.old.process }
-    {
-        let number = self.resume_numbered()?;
-        Ok(Ticket::new(number))
     }
 }

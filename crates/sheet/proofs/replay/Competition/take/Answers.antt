@@ -15,7 +15,7 @@ returns-clause-law g c =
 pub returns-clause-sorted : goal.returns-clause-sorted
 returns-clause-sorted g c =
     host_sorts g.X.Host.view g.X.Host.holds g.met.X.Host.sound g.met.X.Host.whole g.X.Host.makes g.X.Host.goes
-    g.X.Controls.declines g.X.Controls.leaves g.met.X.Host.stays_sorted g.met.X.Controls.moves_no_row
+    g.X.Controls.declines g.X.Controls.shuts g.X.Controls.leaves g.met.X.Host.stays_sorted g.met.X.Controls.moves_no_row
     (command_of c.args.event.now) _ c.args.self.now.host c.answer.new.self.host c.in_ok-answer.ensures.host
 
 pub returns-clause-belong : goal.returns-clause-belong
@@ -27,5 +27,5 @@ returns-clause-belong g c =
     (goes_one (process_of x) (world_of view x) (happening (view y.host).shut c.args.event.now) c.in_ok-answer.answer (world_of view y)
     c.in_ok-answer.ensures.does)
     (host_sorts view g.X.Host.holds g.met.X.Host.sound g.met.X.Host.whole g.X.Host.makes g.X.Host.goes
-    g.X.Controls.declines g.X.Controls.leaves g.met.X.Host.stays_sorted g.met.X.Controls.moves_no_row
+    g.X.Controls.declines g.X.Controls.shuts g.X.Controls.leaves g.met.X.Host.stays_sorted g.met.X.Controls.moves_no_row
     (command_of c.args.event.now) _ x.host y.host c.in_ok-answer.ensures.host)
