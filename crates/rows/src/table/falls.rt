@@ -79,10 +79,8 @@ impl RowTable {
     {
         let mut falling = self.rows_in(RowState::Running);
         falling.join(struck);
-        let mut last = 0;
-        while let Some(row) = falling.next_above(last) {
+        for row in falling.iter() {
             self.fall_row(steps, row, number);
-            last = row;
         }
     }
 }

@@ -6,6 +6,7 @@ use Rattle.model.specs.Chart.{Chart}
 use Rattle.model.specs.Rollback.{fallen}
 use Rattle.model.specs.Rows.{Rows, idle, in_state, live, with_states}
 use Rattle.rows.specs.Tables.{rows_of, rolled_of}
+use Rattle.rowset.proofs.Iteration.{top_more, next_member, no_next_member}
 use Rattle.rowset.proofs.Loops.{up_to_none}
 use Rattle.rows.proofs.Falls.{fallen_states, fallen_rolled, states_more, states_all, rolled_more, rolled_all}
 use Rattle.rows.proofs.table.RowTable.fall.Goals as goal
@@ -30,14 +31,16 @@ loop-row-preserved c =
     let are : (k : ℕ) → falling k ≡ (in_state r Running k || struck k) =
     λ k. c.join.ensures k ∙ ap (λ b. b || struck k) (c.rows_in-falling.ensures k) in
     let t = c.in-Some.row in
+    let next = next_member c.join.new.self _ _ c.into_iter-row-iterator.ensures.into_iter_gives c.iter-row-items.ensures
+    c.loop-row.yielded_by c.in-Some.ensures.steps in
     let now = c.loop-row.invariant in
-    record {
+    rw (top_more 0 c.loop-row.yielded t) record {
       rows = c.fall_row.ensures.rows
           ∙ ap (λ (x : Rows). with_states x (λ k. cond (eqb k t) (fallen (x.state k) true (idle chart x k)) (x.state k))) now.rows
-          ∙ ap (with_states r) (states_more chart r struck c.args.number rolled falling are c.loop-row.last t c.in-Some.ensures);
+          ∙ ap (with_states r) (states_more chart r struck c.args.number rolled falling are _ t next);
       rolled = c.fall_row.ensures.rolled
           ∙ ap₂ {C = ℕ → ℕ} (λ (x : Rows) (ns : ℕ → ℕ) k. cond (eqb k t && live (x.state k)) c.args.number (ns k)) now.rows now.rolled
-          ∙ rolled_more chart r struck c.args.number rolled falling are c.loop-row.last t c.in-Some.ensures;
+          ∙ rolled_more chart r struck c.args.number rolled falling are _ t next;
     }
 
 pub returns : goal.returns
@@ -49,9 +52,10 @@ returns c =
     let falling : ℕ → Bool = contains c.join.new.self in
     let are : (k : ℕ) → falling k ≡ (in_state r Running k || struck k) =
     λ k. c.join.ensures k ∙ ap (λ b. b || struck k) (c.rows_in-falling.ensures k) in
-    let past = c.in_default.ensures in
+    let past = no_next_member c.join.new.self _ _ c.into_iter-row-iterator.ensures.into_iter_gives c.iter-row-items.ensures
+    c.loop-row.yielded_by c.in-None.ensures.steps.0 in
     record {
       rows = c.loop-row.invariant.rows
-          ∙ ap (with_states r) (states_all chart r struck c.args.number rolled falling are c.loop-row.last past);
-      rolled = c.loop-row.invariant.rolled ∙ rolled_all chart r struck c.args.number rolled falling are c.loop-row.last past;
+          ∙ ap (with_states r) (states_all chart r struck c.args.number rolled falling are _ past);
+      rolled = c.loop-row.invariant.rolled ∙ rolled_all chart r struck c.args.number rolled falling are _ past;
     }
