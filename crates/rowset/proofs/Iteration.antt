@@ -1,7 +1,7 @@
 -- The members of a set as a list, and what loops over them know. Assumes nothing.
-use Rattle.std.proofs.Common.{◌≡◌, ℕ, zero, suc, ◌+◌, ◌-◌, ◌<◌, ◌≤◌, Bool, true, false, cond, not, eqb, List, [], ◌∷◌, ◌++◌, length, drop, get_or, Some, None, sym, refl, ap, ◌∙◌, inl, inr, arith, length-append}
+use Rattle.std.proofs.Common.{◌≡◌, ℕ, zero, suc, ◌+◌, ◌-◌, ◌<◌, ◌≤◌, Bool, true, false, cond, ◌&&◌, not, eqb, List, [], ◌∷◌, ◌++◌, length, drop, get_or, Option, Some, None, sym, refl, ap, ◌∙◌, inl, inr, arith, length-append}
 use Rattle.std.specs.Iterator.{Yields, YieldsFirst}
-use Rattle.std.specs.List.{filter, range_with_len}
+use Rattle.std.specs.List.{filter, find, range_with_len}
 use Rattle.std.proofs.lemmas.Bool.{cases_Bool, cases_eq, cases_lt, and_parts, both_ways, false_from_ne_true}
 use Rattle.std.proofs.lemmas.List.{append-nil}
 use Rattle.graph.specs.Reach.{Least}
@@ -110,6 +110,46 @@ module _ (set : RowSet) {last : ℕ} where
       let within = numbered set t next.1 in
       first_there (contains set) (last + 1) (greatest set - last) t (greatest set - t) (omega arith) (omega arith) next.1
       (λ k l u. false_from_ne_true (contains set k) (next.2 k (omega arith) u))
+
+-- ── a search among the members ──
+
+-- the numbers that pass two tests
+both_kept : (p f : ℕ → Bool) (xs : List ℕ) → filter f (filter p xs) ≡ filter (λ k. p k && f k) xs
+both_kept p f [] = refl
+both_kept p f (x ∷ xs) = let rest = both_kept p f xs in elim (cases_Bool (p x)) [
+  | inl is ↦ grind arith
+  | inr other ↦ grind arith
+]
+
+-- the first that is kept is the one found
+first_kept : (f : ℕ → Bool) (xs : List ℕ) {t : ℕ} → Some t ≡ find f xs → (ys : List ℕ) × (filter f xs ≡ t ∷ ys)
+first_kept f [] e = cc
+first_kept f (x ∷ xs) {t} e = elim (cases_Bool (f x)) [
+  | inl is ↦ (filter f xs, grind arith)
+  | inr other ↦
+      let later : Some t ≡ find f xs = grind arith in
+      let (ys, rest) = first_kept f xs later in (ys, grind arith)
+]
+
+none_kept : (f : ℕ → Bool) (xs : List ℕ) → None ≡ find f xs → filter f xs ≡ []
+none_kept f [] e = refl
+none_kept f (x ∷ xs) e = elim (cases_Bool (f x)) [
+  | inl is ↦ grind arith
+  | inr other ↦ let rest = none_kept f xs (grind arith) in grind arith
+]
+
+-- the member that is found is the least that passes
+pub found_least : (set : RowSet) (f : ℕ → Bool) (start : ℕ) (o : Option ℕ) → o ≡ find f (members_above set start)
+    → Least (λ k. (contains set k && f k) ≡ true) start o
+unfolding members_above
+found_least set f start None e = λ k above is.
+    let within = numbered set k (and_parts (contains set k) (f k) is).0 in
+    none_of (λ k. contains set k && f k) start (greatest set - start)
+    (sym (both_kept (contains set) f (range_with_len (start + 1) (greatest set - start))) ∙ none_kept f _ e) k above (omega arith) is
+found_least set f start (Some t) e =
+    let (ys, first) = first_kept f (members_above set start) e in
+    (first_of (λ k. contains set k && f k) start (greatest set - start) t ys
+    (sym (both_kept (contains set) f (range_with_len (start + 1) (greatest set - start))) ∙ first)).0
 
 -- ── loops over the members ──
 

@@ -5,7 +5,7 @@ ghost use Rattle.std.specs.Prelude.{◌≡◌, ℕ, ◌+◌, ◌<◌, true, fals
 ghost use Rattle.std.specs.Iterator.{YieldsFirst, item_count};
 ghost use Rattle.graph.specs.Reach.{Least};
 ghost use Rattle.rowset.specs.Members.{is_number, contains};
-ghost use Rattle.rowset.specs.Iteration.{members, rest};
+ghost use Rattle.rowset.specs.Iteration.{members, members_above, rest};
 
 /// How many numbers there are.
 const NUMBERS: usize = 256;
@@ -92,7 +92,17 @@ impl RowSet {
     pub fn iter(&self) -> Iter<'_>
         ensures { rest result ≡ members self.now }
     {
-        Iter { set: self, last: 0 }
+        self.iter_above(0)
+    }
+
+    /// The members above a number, rising.
+    pub fn iter_above(&self, number: u16) -> Iter<'_>
+        ensures { rest result ≡ members_above self.now number }
+    {
+        Iter {
+            set: self,
+            last: number,
+        }
     }
 
     /// The least member above a number.
