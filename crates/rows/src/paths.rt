@@ -31,14 +31,7 @@ impl RowTable {
         ensures { result ≡ lowest_due (rows_of self.now) row (held marks.now) }
     {
         let due = self.rows_in(RowState::Due);
-        let mut last = row;
-        while let Some(k) = due.next_above(last) {
-            if marks.is_set(usize::from(k)) {
-                return Some(k);
-            }
-            last = k;
-        }
-        None
+        due.iter_above(row).find(|k| marks.is_set(usize::from(*k)))
     }
 
     /// The lowest due row after this one. Rows after it have higher numbers: where none of these is due, no room is

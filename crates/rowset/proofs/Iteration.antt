@@ -1,6 +1,7 @@
 -- The members of a set as a list, and what loops over them know. Assumes nothing.
 use Rattle.std.proofs.Common.{◌≡◌, ℕ, zero, suc, ◌+◌, ◌-◌, ◌<◌, ◌≤◌, Bool, true, false, cond, ◌&&◌, not, eqb, List, [], ◌∷◌, ◌++◌, length, drop, get_or, Option, Some, None, sym, refl, ap, ◌∙◌, inl, inr, arith, length-append}
 use Rattle.std.specs.Iterator.{Yields, YieldsFirst}
+use Rattle.std.specs.Option.{option_map}
 use Rattle.std.specs.List.{filter, find, range_with_len}
 use Rattle.std.proofs.lemmas.Bool.{cases_Bool, cases_eq, cases_lt, and_parts, both_ways, false_from_ne_true}
 use Rattle.std.proofs.lemmas.List.{append-nil}
@@ -139,7 +140,7 @@ none_kept f (x ∷ xs) e = elim (cases_Bool (f x)) [
 ]
 
 -- the member that is found is the least that passes
-pub found_least : (set : RowSet) (f : ℕ → Bool) (start : ℕ) (o : Option ℕ) → o ≡ find f (members_above set start)
+pub found_least : (set : RowSet) (f : ℕ → Bool) (start : ℕ) (o : Option ℕ) → option_map (λ x. x) o ≡ find f (members_above set start)
     → Least (λ k. (contains set k && f k) ≡ true) start o
 unfolding members_above
 found_least set f start None e = λ k above is.

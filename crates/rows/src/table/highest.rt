@@ -22,14 +22,7 @@ impl RowTable {
             (λ row. (is_highest (rows_of self.now) row ≡ true) × ((rows_of self.now).step row ≡ step)) }
     {
         let highest = self.highest();
-        let mut last = 0;
-        while let Some(row) = highest.next_above(last) {
-            if self.step(row) == step {
-                return Some(row);
-            }
-            last = row;
-        }
-        None
+        highest.iter().find(|row| self.step(*row) == step)
     }
 
     /// Those of other steps than this one.
