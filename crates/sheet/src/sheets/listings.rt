@@ -79,10 +79,8 @@ impl Sheet {
         ensures { Puts (graph_arrows (sheet_of self.now)) 0 table.old result table.new }
     {
         let mut next = 0;
-        let mut last = 0;
-        while let Some(row) = self.graph.next_above(last) {
+        for row in self.graph.iter() {
             next = self.put_arrows_from(row, &links[usize::from(row)], table, next);
-            last = row;
         }
         next
     }

@@ -88,10 +88,8 @@ impl Sheet {
         ensures { ShowsNow self.now (shown (chart_of self.now) (sheet_of self.now)) bytes.old bytes.new }
     {
         let highest = self.table.highest();
-        let mut last = 0;
-        while let Some(row) = highest.next_above(last) {
+        for row in highest.iter() {
             self.write_row(row, bytes);
-            last = row;
         }
     }
 
