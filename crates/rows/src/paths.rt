@@ -98,10 +98,8 @@ impl RowTable {
             return;
         };
         let wanted = self.with_passed(rows);
-        let mut last = least - 1;
-        while let Some(row) = wanted.next_above(last) {
+        for row in wanted.iter_above(least - 1) {
             links[row as usize] = self.links_of(row, least, links);
-            last = row;
         }
     }
 }

@@ -1,8 +1,8 @@
 -- The members of a set as a list, and what loops over them know. Assumes nothing.
 use Rattle.std.proofs.Common.{◌≡◌, ℕ, zero, suc, ◌+◌, ◌-◌, ◌<◌, ◌≤◌, Bool, true, false, cond, ◌&&◌, not, eqb, List, [], ◌∷◌, ◌++◌, length, drop, get_or, Option, Some, None, sym, refl, ap, ◌∙◌, inl, inr, arith, length-append}
 use Rattle.std.specs.Iterator.{Yields, YieldsFirst}
-use Rattle.std.specs.Option.{option_map}
 use Rattle.std.specs.List.{filter, find, range_with_len}
+use Rattle.std.specs.Option.{option_map}
 use Rattle.std.proofs.lemmas.Bool.{cases_Bool, cases_eq, cases_lt, and_parts, both_ways, false_from_ne_true}
 use Rattle.std.proofs.lemmas.List.{append-nil}
 use Rattle.graph.specs.Reach.{Least}
@@ -179,39 +179,51 @@ none_after p a n [] e k l u = none_of p a n e k l u
 none_after p a n (y ∷ xs) e k l u =
     let (least, more) = first_of p a n y xs e in none_after p y more.0 xs more.2 k l (omega (arith, more.1))
 
--- where a loop stands: what the iterator gave so far, and what it gives next
-module _ {made it : Iter} (set : RowSet) (xs : List ℕ) (now : Iter) (into : it ≡ made) (all : rest made ≡ members set)
-    (gave : Yields (YieldsFirst rest) it xs now) where
-  parts : members set ≡ xs ++ rest now
+-- where a loop stands: what the iterator gave so far of the members above a number, and what it gives next
+module _ {made it : Iter} (set : RowSet) (start : ℕ) (xs : List ℕ) (now : Iter) (into : it ≡ made)
+    (all : rest made ≡ members_above set start) (gave : Yields (YieldsFirst rest) it xs now) where
+  parts : members_above set start ≡ xs ++ rest now
   parts = sym all ∙ ap rest (sym into) ∙ so_far it xs now gave
 
   -- the next is the least member above the last
-  pub next_member : {x : ℕ} {more : List ℕ} → rest now ≡ x ∷ more → Least (λ k. contains set k ≡ true) (top 0 xs) (Some x)
+  pub next_from : {x : ℕ} {more : List ℕ} → rest now ≡ x ∷ more → Least (λ k. contains set k ≡ true) (top start xs) (Some x)
   unfolding members_above
-  next_member {x} {more} next =
-      next_after (contains set) 0 (greatest set - 0) xs x more (parts ∙ ap (λ ys. xs ++ ys) next)
+  next_from {x} {more} next =
+      next_after (contains set) start (greatest set - start) xs x more (parts ∙ ap (λ ys. xs ++ ys) next)
 
   -- all were given
-  pub given_all : rest now ≡ [] → members set ≡ xs
-  given_all none = parts ∙ ap (λ ys. xs ++ ys) none ∙ append-nil xs
+  pub given_from : rest now ≡ [] → members_above set start ≡ xs
+  given_from none = parts ∙ ap (λ ys. xs ++ ys) none ∙ append-nil xs
 
   -- no member is above the last
-  pub no_next_member : rest now ≡ [] → Least (λ k. contains set k ≡ true) (top 0 xs) None
+  pub no_next_from : rest now ≡ [] → Least (λ k. contains set k ≡ true) (top start xs) None
   unfolding members_above
-  no_next_member none = λ k above is_in.
+  no_next_from none = λ k above is_in.
       let within = numbered set k is_in in
-      none_after (contains set) 0 (greatest set - 0) xs (given_all none) k above (omega arith) is_in
+      none_after (contains set) start (greatest set - start) xs (given_from none) k above (omega arith) is_in
+
+-- the same of all members
+module _ {made it : Iter} (set : RowSet) (xs : List ℕ) (now : Iter) (into : it ≡ made) (all : rest made ≡ members set)
+    (gave : Yields (YieldsFirst rest) it xs now) where
+  pub next_member : {x : ℕ} {more : List ℕ} → rest now ≡ x ∷ more → Least (λ k. contains set k ≡ true) (top 0 xs) (Some x)
+  next_member next = next_from set 0 xs now into all gave next
+
+  pub given_all : rest now ≡ [] → members set ≡ xs
+  given_all none = given_from set 0 xs now into all gave none
+
+  pub no_next_member : rest now ≡ [] → Least (λ k. contains set k ≡ true) (top 0 xs) None
+  no_next_member none = no_next_from set 0 xs now into all gave none
 
   -- there are fewer so far than numbers
   pub fewer : {x : ℕ} {more : List ℕ} → rest now ≡ x ∷ more → length xs < greatest set
   unfolding members_above
   fewer {x} {more} next =
-      let size = ap length (parts ∙ ap (λ ys. xs ++ ys) next) ∙ length-append xs (x ∷ more) in
+      let size = ap length (parts set 0 xs now into all gave ∙ ap (λ ys. xs ++ ys) next) ∙ length-append xs (x ∷ more) in
       let few = few_there (contains set) 1 (greatest set - 0) in
       omega (arith, size, few)
 
   -- and fewer than members
   pub fewer_members : {x : ℕ} {more : List ℕ} → rest now ≡ x ∷ more → length xs < length (members set)
   fewer_members {x} {more} next =
-      let size = ap length (parts ∙ ap (λ ys. xs ++ ys) next) ∙ length-append xs (x ∷ more) in
+      let size = ap length (parts set 0 xs now into all gave ∙ ap (λ ys. xs ++ ys) next) ∙ length-append xs (x ∷ more) in
       omega (arith, size)
