@@ -8,27 +8,19 @@ use Rattle.values.specs.declared.Kind.TheVariants.{Score, Fee}
 use Rattle.values.specs.declared.Mode.{Mode}
 use Rattle.values.specs.declared.Mode.TheVariants.{Complete, Partial}
 use Rattle.values.specs.declared.TicketNumber.{TicketNumber}
-use Rattle.host.specs.declared.hosts.NoCommand.{NoCommand}
-use Rattle.host.specs.declared.pair.PairCommand.{PairCommand}
-use Rattle.host.specs.declared.pair.PairCommand.TheVariants.{First, Second}
-use Rattle.host.specs.declared.switch.SwitchCommand.{SwitchCommand}
-use Rattle.host.specs.declared.switch.SwitchCommand.TheVariants.{On, Off, Below}
 use Rattle.sheet.specs.declared.events.Event.{Event}
 use Rattle.sheet.specs.declared.events.Event.TheVariants as event
 use Rattle.sheet.specs.declared.events.Sizes.{Sizes}
+use Rattle.club.specs.Commands.{Command, command_for, turn_of}
+use Rattle.club.specs.declared.commands.Book.TheVariants.{Ledger, Scores}
+use Rattle.club.specs.declared.commands.Turn.{Turn}
+use Rattle.club.specs.declared.commands.Turn.TheVariants as turn
 use Rattle.journal.specs.declared.Wrong.{Wrong}
 use Rattle.journal.specs.declared.Wrong.TheVariants.{TooFewWords, NotATicket, NotAKind, NotAMode, NotAHost}
 use Rattle.journal.specs.declared.events.Line.{Line}
 use Rattle.journal.specs.declared.calls.CallWord.{CallWord}
 use Rattle.journal.specs.declared.calls.CallWord.TheVariants as word
 use Rattle.journal.specs.Text.{and_then, only, no_words, two, four, five, number}
-
--- what turns one switch of the two hosts: fees go to the first, the ledger, and all else to the second, the score book
-abbrev pub Turn : Type 0
-Turn = SwitchCommand NoCommand
-
-abbrev pub Command : Type 0
-Command = PairCommand Turn Turn
 
 -- a call, other lent memory, or a command for the hosts
 pub data Call : Type 0 where
@@ -101,8 +93,8 @@ amount w = cond (bytes_eq w (codes "-")) (Ok None) (and_then (signed w) (λ z. O
 
 -- a command for the named host
 abbrev pub turned : Turn → List ℕ → Result Command Wrong
-turned turn w =
-    cond (bytes_eq w (codes "ledger")) (Ok (First turn)) (cond (bytes_eq w (codes "scores")) (Ok (Second turn)) (Err NotAHost))
+turned t w =
+    cond (bytes_eq w (codes "ledger")) (Ok (command_for t Ledger)) (cond (bytes_eq w (codes "scores")) (Ok (command_for t Scores)) (Err NotAHost))
 
 -- ── a line's words after the first ──
 
@@ -132,7 +124,7 @@ abbrev pub undone : List (List ℕ) → Result Call Wrong
 undone ws = and_then (two ws) (λ p. and_then (ticket p.0) (λ t. and_then (number 65535 p.1) (λ row. Ok (undo t row))))
 
 abbrev pub only_turned : Turn → List (List ℕ) → Result Command Wrong
-only_turned turn ws = and_then (only ws) (turned turn)
+only_turned t ws = and_then (only ws) (turned t)
 
 abbrev pub sizes : List (List ℕ) → Result Sizes Wrong
 sizes ws =
@@ -167,19 +159,14 @@ called word.Park ws = and_then (only_ticket ws) (λ t. Ok (park t))
 called word.Resume ws = and_then (no_words ws) (λ _. Ok resume)
 called word.Listing ws = and_then (no_words ws) (λ _. Ok listing)
 called word.Reply ws = and_then (only_number 4294967295 ws) (λ place. Ok (reply place))
-called word.Shut ws = and_then (only_turned Off ws) (λ c. Ok (control c))
-called word.Open ws = and_then (only_turned On ws) (λ c. Ok (control c))
+called word.Shut ws = and_then (only_turned turn.Shut ws) (λ c. Ok (control c))
+called word.Open ws = and_then (only_turned turn.Open ws) (λ c. Ok (control c))
 called word.Memory ws = and_then (sizes ws) (λ z. Ok (lend z))
 
--- what turns a switch, and so the first word of each line of a call
+-- the first word of the line of a command, and so of each line of a call
 abbrev pub turn_text : Turn → List ℕ
-turn_text On = codes "open"
-turn_text Off = codes "shut"
-turn_text (Below c) = codes "open"
-
-abbrev pub command_text : Command → List ℕ
-command_text (First turn) = turn_text turn
-command_text (Second turn) = turn_text turn
+turn_text turn.Open = codes "open"
+turn_text turn.Shut = codes "shut"
 
 abbrev pub call_text : Call → List ℕ
 call_text (start step predecessors entry) = codes "start"
@@ -192,4 +179,4 @@ call_text resume = codes "resume"
 call_text listing = codes "listing"
 call_text (reply place) = codes "reply"
 call_text (lend sizes) = codes "memory"
-call_text (control command) = command_text command
+call_text (control command) = turn_text (turn_of command)

@@ -3,7 +3,6 @@ pub mod Calls
 pub mod Settings
 pub mod Summaries
 pub mod Spelled
-pub mod Hosts
 pub mod Played
 pub mod Playing
 pub mod Names

@@ -11,8 +11,9 @@ use Rattle.sheet.specs.Lent.{zeros}
 use Rattle.sheet.specs.declared.events.Event.{Event}
 use Rattle.sheet.specs.declared.events.Sizes.{Sizes}
 use Rattle.sheet.specs.declared.events.Taken.{Taken}
-use Rattle.journal.specs.Calls.{Command, Call, start, end, abort, undo, finish, park, resume, listing, reply, lend, control, call_of, call_text}
-use Rattle.journal.specs.Hosts.{Switches, all_on, commanded, are_shut, opening_hosts}
+use Rattle.club.specs.Commands.{Command}
+use Rattle.journal.specs.Calls.{Call, start, end, abort, undo, finish, park, resume, listing, reply, lend, control, call_of, call_text}
+use Rattle.club.specs.Hosts.{Switches, all_on, commanded, are_shut, opening_hosts}
 use Rattle.journal.specs.Spelled.{row_text, ticket_text, listed_text, hex_text, declined_text, text_line}
 use Rattle.journal.specs.declared.summary.CallCounts.{CallCounts}
 

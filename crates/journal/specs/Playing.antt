@@ -2,7 +2,7 @@
 use Rattle.std.specs.Prelude.{string_bytes}
 use Rattle.model.specs.Chart.{Chart}
 use Rattle.sheet.specs.Runs.{world_of, process_of as process_in}
-use Rattle.journal.specs.Hosts.{hosts_view, switches_of}
+use Rattle.club.specs.Hosts.{hosts_view, switches_of}
 use Rattle.journal.specs.Played.{Played}
 use Rattle.journal.specs.declared.play.Play.{Play}
 

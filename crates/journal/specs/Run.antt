@@ -9,7 +9,7 @@ use Rattle.model.specs.Summaries.{summary_of}
 use Rattle.journal.specs.declared.Unreadable.{Unreadable}
 use Rattle.journal.specs.declared.outcomes.Outcome.{Outcome}
 use Rattle.journal.specs.Names.{names_handed}
-use Rattle.journal.specs.Hosts.{fees_standing}
+use Rattle.club.specs.Hosts.{fees_standing}
 use Rattle.journal.specs.Outcomes.{Shown, shown, unread, declined, process_line, replayed}
 use Rattle.journal.specs.Played.{Played, play, unplayed}
 use Rattle.journal.specs.Summaries.{joined}

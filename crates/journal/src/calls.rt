@@ -4,13 +4,13 @@ ghost use Rattle.journal.specs.Text.{Told, ToldUnlessFull, number as number_said
 ghost use Rattle.journal.specs.Calls.{call_of, call_word as named};
 ghost use Rattle.journal.specs.Calls.{started, only_number, only_ticket, mode_named, mode, undone, only_turned, sizes, called};
 
-use crate::events::{Command, HostEvent, Turn};
+use crate::events::HostEvent;
 use crate::fields::{amount, command, kind, rows, ticket};
 use crate::text::{
     five_words, four_words, no_words, number, only_word, short_number, split_word, two_words,
 };
 use crate::{LineError, Wrong};
-use host::SwitchCommand;
+use club::{Command, Turn};
 use sheet::{Event, Sizes};
 use std::alloc::Global;
 use values::{Entry, Mode, TicketNumber};
@@ -171,10 +171,10 @@ pub(crate) fn call(heap: Global, word: CallWord, rest: &[u8]) -> Result<HostEven
             place: only_place(rest)?,
         }),
         CallWord::Shut => Ok(Event::Control {
-            command: only_command(SwitchCommand::Off, rest)?,
+            command: only_command(Turn::Shut, rest)?,
         }),
         CallWord::Open => Ok(Event::Control {
-            command: only_command(SwitchCommand::On, rest)?,
+            command: only_command(Turn::Open, rest)?,
         }),
         CallWord::Memory => Ok(Event::Lend {
             sizes: sizes(rest)?,

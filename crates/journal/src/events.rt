@@ -2,14 +2,8 @@
 ghost use Rattle.std.specs.Prelude.{◌≡◌};
 ghost use Rattle.journal.specs.Calls.{call_of, call_text, turn_text};
 
-use host::{NoCommand, PairCommand, SwitchCommand};
+use club::{Command, Turn, turn_of};
 use sheet::Event;
-
-/// What turns the switch of a host.
-pub type Turn = SwitchCommand<NoCommand>;
-
-/// A command for the program's hosts: the first is the ledger, which takes fees, and the second the score book.
-pub type Command = PairCommand<Turn, Turn>;
 
 /// What may happen in a competition with these hosts.
 pub type HostEvent = Event<Command>;
@@ -25,8 +19,8 @@ fn turn_word(turn: Turn) -> &'static str
     ensures { result.now ≡ turn_text turn }
 {
     match turn {
-        SwitchCommand::On | SwitchCommand::Below(_) => "open",
-        SwitchCommand::Off => "shut",
+        Turn::Open => "open",
+        Turn::Shut => "shut",
     }
 }
 
@@ -46,9 +40,7 @@ impl Line {
             Event::Listing => "listing",
             Event::Reply { .. } => "reply",
             Event::Lend { .. } => "memory",
-            Event::Control { command } => match command {
-                PairCommand::First(turn) | PairCommand::Second(turn) => turn_word(*turn),
-            },
+            Event::Control { command } => turn_word(turn_of(command)),
         }
     }
 }

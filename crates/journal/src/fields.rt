@@ -3,10 +3,9 @@ ghost use Rattle.std.specs.Prelude.{◌≡◌, ◌==◌, position};
 ghost use Rattle.journal.specs.Text.{ToldUnlessFull};
 ghost use Rattle.journal.specs.Calls.{ticket, rows, kind, signed, amount, turned};
 
-use crate::events::{Command, Turn};
 use crate::text::{number, short_number};
 use crate::{LineError, Wrong};
-use host::PairCommand;
+use club::{Book, Command, Turn, command_for};
 use std::alloc::{AllocError, Global};
 use values::{Kind, TicketNumber};
 
@@ -71,13 +70,13 @@ pub(crate) fn amount(word: &[u8]) -> Result<Option<i32>, Wrong>
     }
 }
 
-// The command that turns the switch of the named host.
+// The command that opens or shuts the named host.
 pub(crate) fn command(turn: Turn, host: &[u8]) -> Result<Command, Wrong>
     ensures { result ≡ turned turn host.now }
 {
     match host {
-        b"ledger" => Ok(PairCommand::First(turn)),
-        b"scores" => Ok(PairCommand::Second(turn)),
+        b"ledger" => Ok(command_for(turn, Book::Ledger)),
+        b"scores" => Ok(command_for(turn, Book::Scores)),
         _ => Err(Wrong::NotAHost),
     }
 }

@@ -9,7 +9,6 @@ mod answers;
 mod calls;
 mod events;
 mod fields;
-mod hosts;
 mod lists;
 mod names;
 mod outcomes;
@@ -21,8 +20,7 @@ mod text;
 mod wrongs;
 
 pub use answers::Answer;
-pub use events::{Command, HostEvent, Line, Turn};
-pub use hosts::{Hosts, new_hosts};
+pub use events::{HostEvent, Line};
 pub use names::step_names;
 pub use outcomes::Outcome;
 pub use play::playing::FIRST_SIZES;

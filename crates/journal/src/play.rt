@@ -1,8 +1,8 @@
 // A journal under way.
-ghost use Rattle.journal.specs.Hosts.{InOrder};
+ghost use Rattle.club.specs.Hosts.{InOrder};
 
-use crate::hosts::Hosts;
 use crate::summary::CallCounts;
+use club::Hosts;
 use sheet::Competition;
 
 pub(crate) mod playing;

@@ -1,9 +1,8 @@
 // A journal replayed many times, by the clock.
 use crate::replay;
 use anyhow::anyhow;
-use journal::{
-    CallCounts, FIRST_SIZES, HostEvent, Hosts, Journal, Summary, new_hosts, parse, step_names,
-};
+use club::{Hosts, balance, new_hosts};
+use journal::{CallCounts, FIRST_SIZES, HostEvent, Journal, Summary, parse, step_names};
 use process::tables::Tables;
 use process::{COLUMN, LINE, Process};
 use sheet::{Competition, End, Memory, Sheet, Taken};
@@ -84,7 +83,7 @@ impl Course {
         }
         let calls = CallCounts::of(&self.events, &taken);
         let names = step_names(rt.alloc(), &self.stored, steps + 1)?;
-        let balance = treasurer.then(|| competition.host().first().inner().balance());
+        let balance = treasurer.then(|| balance(competition.host()));
         let summary = Summary::of(rt.alloc(), calls, competition.sheet(), names, balance)?;
         Ok(Lap { spent, summary })
     }

@@ -14,10 +14,10 @@ ghost use Rattle.journal.specs.Spelled.{answer_text};
 use crate::Journal;
 use crate::answers::{Answer, AnswerLine};
 use crate::events::{HostEvent, Line};
-use crate::hosts::new_hosts;
 use crate::outcomes::{Outcome, process_line};
 use crate::play::Play;
 use crate::summary::{CallCounts, Summary};
+use club::{balance, new_hosts};
 use process::Process;
 use sheet::{Competition, Event, Memory, Sheet, Sizes, Taken};
 use std::alloc::{AllocError, Global};
@@ -180,7 +180,7 @@ impl Play {
         ensures { result ≡ balance_told treasurer (played_of self.now) }
     {
         if treasurer {
-            Some(self.competition.host().first().inner().balance())
+            Some(balance(self.competition.host()))
         } else {
             None
         }

@@ -1,7 +1,7 @@
 -- A blank sheet, new hosts and memory that is zero.
-use Rattle.std.proofs.Common.{◌∙◌}
+use Rattle.std.proofs.Common.{sym, subst, ◌∙◌}
 use Rattle.model.specs.Run.{world}
-use Rattle.journal.specs.Hosts.{switches_of}
+use Rattle.club.specs.Hosts.{switches_of, InOrder}
 use Rattle.journal.proofs.play.Play.of.Goals as goal
 
 pub returns-clause-played : goal.returns-clause-played
@@ -19,8 +19,5 @@ returns-clause-played c =
 
 pub invariant_of-result : goal.invariant_of-result
 invariant_of-result c = record {
-  order = record {
-    kind = (λ i. (c.new-3.ensures.host i).kind) ∙ c.in_ok-hosts.ensures.kind;
-    sorted = c.new-3.ensures.sorted c.in_ok-hosts.ensures.fresh;
-  };
+  order = subst InOrder (sym c.new-3.ensures.host) c.in_ok-hosts.ensures.order;
 }

@@ -8,10 +8,11 @@ use Rattle.sheet.specs.Lent.{lent_of}
 use Rattle.sheet.specs.Runs.{world_of}
 use Rattle.sheet.specs.declared.replay.Competition.{Competition}
 use Rattle.journal.specs.Calls.{call_of, call_text}
-use Rattle.journal.specs.Hosts.{Hosts, hosts_view, switches_of, InOrder}
+use Rattle.club.specs.Hosts.{Hosts, hosts_view, switches_of, InOrder}
 use Rattle.journal.specs.Played.{part_of, counted, told_text, told_line}
 use Rattle.journal.specs.Playing.{played_of, process_of}
-use Rattle.journal.proofs.Playing.{shut_by, steers, kind_kept, refuses_none, plays_one}
+use Rattle.club.proofs.Leaving.{shut_by}
+use Rattle.journal.proofs.Playing.{steers, keeps_order, refuses_none, plays_one}
 use Rattle.journal.proofs.play.Play.take.Goals as goal
 
 pub returns-clause-played : goal.returns-clause-played
@@ -42,8 +43,6 @@ invariant_of-self c =
 pub invariant_of-self-2 : goal.invariant_of-self-2
 invariant_of-self-2 c =
     let x = c.args.self.now in record {
-      order = record {
-        kind = kind_kept (command_of c.args.line.now.event) _ x.competition.host c.take.new.self.host c.in_ok-take.ensures.takes.host ∙ x.order.kind;
-        sorted = c.in_ok-take.ensures.sorted x.order.sorted;
-      };
+      order = keeps_order (command_of c.args.line.now.event) _ x.competition.host c.take.new.self.host c.in_ok-take.ensures.takes.host
+          c.in_ok-take.ensures.sorted x.order;
     }

@@ -4,7 +4,7 @@ use Rattle.std.proofs.lemmas.Slice.Zip.{either_empty_from_Zip}
 use Rattle.std.specs.List.{zip}
 use Rattle.sheet.specs.declared.events.Event.{Event}
 use Rattle.sheet.specs.declared.events.Taken.{Taken}
-use Rattle.journal.specs.Calls.{Command}
+use Rattle.club.specs.Commands.{Command}
 use Rattle.journal.specs.Played.{counted_event}
 use Rattle.journal.specs.declared.summary.CallCounts.{CallCounts}
 use Rattle.journal.proofs.summary.CallCounts.of.Goals as goal

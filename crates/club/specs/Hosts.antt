@@ -14,7 +14,7 @@ use Rattle.scorebook.specs.declared.book.ScoreBook.{ScoreBook}
 use Rattle.ledger.specs.Book.{ledger_view, rows_in}
 use Rattle.ledger.specs.Fees.{standing_sum}
 use Rattle.ledger.specs.declared.book.Ledger.{Ledger}
-use Rattle.journal.specs.Calls.{Turn, Command}
+use Rattle.club.specs.Commands.{ForSwitch, Command}
 
 -- the program's host: a ledger with a switch over it for fees, and for all other rows a score book with a switch over it
 abbrev pub Hosts : Type 0
@@ -51,14 +51,14 @@ all_on = record { ledger = true; scores = true }
 abbrev pub switches_of : Hosts → Switches
 switches_of h = record { ledger = h.first.on; scores = h.second.on }
 
-abbrev pub turned_by : Turn → Bool → Bool
+abbrev pub turned_by : ForSwitch → Bool → Bool
 turned_by On on = true
 turned_by Off on = false
 turned_by (Below c) on = on
 
 abbrev pub commanded : Command → Switches → Switches
-commanded (First turn) s = record { ledger = turned_by turn s.ledger; scores = s.scores }
-commanded (Second turn) s = record { ledger = s.ledger; scores = turned_by turn s.scores }
+commanded (First one) s = record { ledger = turned_by one s.ledger; scores = s.scores }
+commanded (Second one) s = record { ledger = s.ledger; scores = turned_by one s.scores }
 
 -- the hosts are shut while a switch is off
 abbrev pub are_shut : Switches → Bool
