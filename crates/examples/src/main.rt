@@ -1,7 +1,7 @@
 // Replays each example journal in turn, and prints its file's name and what came of it.
 #![tactic(auto)]
 
-use journal::Outcome;
+use playing::Outcome;
 use std::fs;
 use std::process::ExitCode;
 
@@ -34,7 +34,7 @@ fn replay(rt: &HostRuntime, file: &str) -> anyhow::Result<()> {
         printed,
         reported,
         ..
-    } = journal::run(rt.alloc(), text.as_slice(), false)?;
+    } = playing::run(rt.alloc(), text.as_slice(), false)?;
     print!(rt; "{file}\n{printed}{reported}\n")?;
     Ok(())
 }

@@ -1,10 +1,4 @@
 pub mod Text
 pub mod Calls
 pub mod Settings
-pub mod Summaries
-pub mod Spelled
-pub mod Played
-pub mod Playing
-pub mod Names
-pub mod Outcomes
-pub mod Run
+pub mod Wrongs

@@ -1,34 +1,20 @@
-// Journals: from the text of a journal to what is printed of it.
+// Journals: from the text of a journal to its settings and its events, or to what is wrong with it.
 #![tactic(auto)]
 
 ghost use Rattle.std.specs.Prelude.{◌≡◌};
 ghost use Rattle.journal.specs.declared.LineError.TheVariants.{Wrong as WrongLine, Memory as NoMemory};
 ghost use Rattle.journal.specs.declared.ParseError.TheVariants.{Unreadable as UnreadableLine, Memory};
 
-mod answers;
 mod calls;
 mod events;
 mod fields;
-mod lists;
-mod names;
-mod outcomes;
-mod play;
-mod replay;
 mod settings;
-mod summary;
 mod text;
 mod wrongs;
 
-pub use answers::Answer;
 pub use events::{HostEvent, Line};
-pub use names::step_names;
-pub use outcomes::Outcome;
-pub use play::playing::FIRST_SIZES;
-pub use replay::run;
 pub use settings::parse;
-pub use sheet::RowCounts;
 use std::alloc::AllocError;
-pub use summary::{CallCounts, StepLine, Summary, printable_name};
 
 /// What makes a line unreadable.
 #[derive(Clone, Copy, PartialEq, Eq, Debug, Drop)]

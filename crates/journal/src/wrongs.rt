@@ -1,6 +1,6 @@
 // What is wrong with a line, in words.
 ghost use Rattle.std.specs.Prelude.{◌≡◌, Some, codes};
-ghost use Rattle.journal.specs.Spelled.{wrong_text, report, failure};
+ghost use Rattle.journal.specs.Wrongs.{wrong_text, report, failure};
 ghost use Rattle.journal.specs.Settings.{error_at};
 
 use crate::{LineError, ParseError, Unreadable, Wrong};

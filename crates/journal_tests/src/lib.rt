@@ -1,4 +1,4 @@
-// Tests of the crate `journal`: texts and what they say, worked out by hand from the rules.
+// Tests of the crates `journal` and `playing`: texts and what they say, worked out by hand from the rules.
 #![tactic(auto)]
 
 #[cfg(test)]
@@ -6,7 +6,8 @@ mod printing;
 
 #[cfg(test)]
 mod tests {
-    use journal::{ParseError, parse, run};
+    use journal::{ParseError, parse};
+    use playing::run;
     use std::alloc::Global;
     use std::process::Abort;
     use std::test::Fail;

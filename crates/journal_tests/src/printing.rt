@@ -1,5 +1,5 @@
 // Tests of how answers and a summary are printed: the texts are written out by hand from the rules.
-use journal::{Answer, CallCounts, RowCounts, StepLine, Summary, printable_name};
+use playing::{Answer, CallCounts, RowCounts, StepLine, Summary, printable_name};
 use std::alloc::Global;
 use std::process::Abort;
 use std::test::Fail;

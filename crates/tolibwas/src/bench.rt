@@ -2,7 +2,8 @@
 use crate::replay;
 use anyhow::anyhow;
 use club::{Hosts, balance, new_hosts};
-use journal::{CallCounts, FIRST_SIZES, HostEvent, Journal, Summary, parse, step_names};
+use journal::{HostEvent, Journal, parse};
+use playing::{CallCounts, FIRST_SIZES, Summary, step_names};
 use process::tables::Tables;
 use process::{COLUMN, LINE, Process};
 use sheet::{Competition, End, Memory, Sheet, Taken};

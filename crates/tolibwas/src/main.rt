@@ -5,7 +5,7 @@ mod bench;
 
 use crate::bench::bench;
 use anyhow::anyhow;
-use journal::Outcome;
+use playing::Outcome;
 use std::io::Read;
 use std::process::ExitCode;
 use std::{env, fs};
@@ -67,7 +67,7 @@ fn replay(rt: &HostRuntime, text: &[u8], treasurer: bool) -> anyhow::Result<Exit
         printed,
         reported,
         accepted,
-    } = journal::run(rt.alloc(), text, treasurer)?;
+    } = playing::run(rt.alloc(), text, treasurer)?;
     print!(rt; "{printed}")?;
     eprint!(rt; "{reported}")?;
     Ok(if accepted {
