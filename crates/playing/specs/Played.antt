@@ -140,10 +140,14 @@ play c p ls = fold (play_one c) p ls
 abbrev pub first_sizes : Sizes
 first_sizes = record { column = 257; line = 256; arrows = 32640; restarts = 257; buffer = 32 }
 
--- a blank sheet with this serial, at new hosts, after what was printed before
+-- a blank sheet with this serial, at new hosts, in that memory
+abbrev pub first_world : ℕ → ℕ → ℕ → run.World
+first_world serial scores ledger = run.opening serial (opening_hosts scores ledger) (zeros first_sizes)
+
+-- before the first call, after what was printed before
 abbrev pub unplayed : ℕ → ℕ → ℕ → List ℕ → Played
 unplayed serial scores ledger before = record {
-  world = run.opening serial (opening_hosts scores ledger) (zeros first_sizes);
+  world = first_world serial scores ledger;
   switches = all_on;
   printed = before;
   calls = no_calls;

@@ -2,6 +2,7 @@
 #![tactic(auto)]
 
 mod answers;
+mod competitions;
 mod lists;
 mod names;
 mod outcomes;
@@ -10,9 +11,9 @@ mod replay;
 mod summary;
 
 pub use answers::Answer;
+pub use competitions::competition;
 pub use names::step_names;
 pub use outcomes::Outcome;
-pub use play::calls::FIRST_SIZES;
 pub use replay::run;
 pub use sheet::RowCounts;
 pub use summary::{CallCounts, StepLine, Summary, printable_name};

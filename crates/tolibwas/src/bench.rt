@@ -1,23 +1,20 @@
 // A journal replayed many times, by the clock.
 use crate::replay;
 use anyhow::anyhow;
-use club::{Hosts, balance, new_hosts};
+use club::balance;
 use journal::{HostEvent, Journal, parse};
-use playing::{CallCounts, FIRST_SIZES, Summary, step_names};
+use playing::{CallCounts, Summary, competition, step_names};
 use process::tables::Tables;
 use process::{COLUMN, LINE, Process};
-use sheet::{Competition, End, Memory, Sheet, Taken};
+use sheet::{End, Taken};
 use std::process::ExitCode;
 use std::time::{Duration, Instant};
 use values::Fault;
 
-// What a journal replays, again and again.
+// What a journal replays, again and again: its settings, with no lines, and the events of its lines.
 #[derive(Drop)]
 struct Course {
-    stored: Vec<u8>,
-    serial: u16,
-    scores: u16,
-    ledger: u16,
+    settings: Journal,
     events: Vec<HostEvent>,
 }
 
@@ -38,8 +35,8 @@ fn process_of(rt: &HostRuntime, stored: &[u8]) -> anyhow::Result<Result<Process,
 impl Course {
     fn of(rt: &HostRuntime, journal: Journal) -> anyhow::Result<Course> {
         let Journal {
-            process: stored,
-            process_line: _,
+            process,
+            process_line,
             serial,
             scores,
             ledger,
@@ -49,32 +46,21 @@ impl Course {
             .into_iter()
             .map(|line| line.event)
             .collect(rt.alloc())?;
-        Ok(Course {
-            stored,
+        let settings = Journal {
+            process,
+            process_line,
             serial,
             scores,
             ledger,
-            events,
-        })
-    }
-
-    // A blank sheet at new hosts, in new memory.
-    fn competition(
-        &self,
-        rt: &HostRuntime,
-        process: Process,
-    ) -> anyhow::Result<Competition<Hosts>> {
-        let heap = rt.alloc();
-        let sheet = Sheet::new(heap, process, self.serial)?;
-        let hosts = new_hosts(heap, self.scores, self.ledger)?;
-        let memory = Memory::new(heap, FIRST_SIZES)?;
-        Ok(Competition::new(sheet, hosts, memory))
+            lines: Vec::new(rt.alloc()),
+        };
+        Ok(Course { settings, events })
     }
 
     // Replays the events once; only that is by the clock.
     fn lap(&self, rt: &HostRuntime, process: Process, treasurer: bool) -> anyhow::Result<Lap> {
         let steps = process.steps().len();
-        let mut competition = self.competition(rt, process)?;
+        let mut competition = competition(rt.alloc(), &self.settings, process)?;
         let mut taken = vec![in rt.alloc(); Taken::PLACE; self.events.len()]?;
         let start = Instant::now(rt)?;
         let replayed = competition.replay(rt.alloc(), &self.events, &mut taken);
@@ -83,7 +69,7 @@ impl Course {
             return Err(error.into());
         }
         let calls = CallCounts::of(&self.events, &taken);
-        let names = step_names(rt.alloc(), &self.stored, steps + 1)?;
+        let names = step_names(rt.alloc(), &self.settings.process, steps + 1)?;
         let balance = treasurer.then(|| balance(competition.host()));
         let summary = Summary::of(rt.alloc(), calls, competition.sheet(), names, balance)?;
         Ok(Lap { spent, summary })
@@ -104,7 +90,7 @@ pub(crate) fn bench(
     let mut spent = Duration::ZERO;
     let mut last = None;
     for _ in 0..replays {
-        let Ok(process) = process_of(rt, &course.stored)? else {
+        let Ok(process) = process_of(rt, &course.settings.process)? else {
             return replay(rt, text, treasurer);
         };
         let lap = course.lap(rt, process, treasurer)?;

@@ -12,13 +12,14 @@ ghost use Rattle.playing.specs.Run.{balance_told, concluded};
 ghost use Rattle.playing.specs.Spelled.{answer_text};
 
 use crate::answers::{Answer, AnswerLine};
+use crate::competitions::competition;
 use crate::outcomes::{Outcome, process_line};
 use crate::play::Play;
 use crate::summary::{CallCounts, Summary};
-use club::{balance, new_hosts};
+use club::balance;
 use journal::{HostEvent, Journal, Line};
 use process::Process;
-use sheet::{Competition, Event, Memory, Sheet, Sizes, Taken};
+use sheet::{Event, Memory, Taken};
 use std::alloc::{AllocError, Global};
 use values::Answer as Given;
 
@@ -117,15 +118,6 @@ impl CallCounts {
     }
 }
 
-/// The memory that calls are lent before a journal says otherwise.
-pub const FIRST_SIZES: Sizes = Sizes {
-    column: 257,
-    line: 256,
-    arrows: 32640,
-    restarts: 257,
-    buffer: 32,
-};
-
 impl Play {
     // A journal of a process that was accepted, before its first call.
     pub(crate) fn of(heap: Global, journal: &Journal, process: Process) -> Result<Play, AllocError>
@@ -135,11 +127,9 @@ impl Play {
         ensures process { IfOk result (λ p. process_of p ≡ tables_of process) }
     {
         let printed = process_line(heap, journal.process_line, &process)?;
-        let sheet = Sheet::new(heap, process, journal.serial)?;
-        let hosts = new_hosts(heap, journal.scores, journal.ledger)?;
-        let memory = Memory::new(heap, FIRST_SIZES)?;
+        let competition = competition(heap, journal, process)?;
         Ok(Play {
-            competition: Competition::new(sheet, hosts, memory),
+            competition,
             printed,
             calls: CallCounts::default(),
         })
