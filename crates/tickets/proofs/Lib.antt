@@ -1,1 +1,5 @@
-pub mod Holding
+pub mod Lending
+pub mod Undoing
+pub mod Downward
+pub mod Ending
+pub mod Beginning
