@@ -192,7 +192,7 @@ module _ {made it : Iter} (set : RowSet) (start : ℕ) (xs : List ℕ) (now : It
       next_after (contains set) start (greatest set - start) xs x more (parts ∙ ap (λ ys. xs ++ ys) next)
 
   -- all were given
-  pub given_from : rest now ≡ [] → members_above set start ≡ xs
+  given_from : rest now ≡ [] → members_above set start ≡ xs
   given_from none = parts ∙ ap (λ ys. xs ++ ys) none ∙ append-nil xs
 
   -- no member is above the last
