@@ -49,7 +49,7 @@ Leaves h c h' = PairLeaves (SwitchLeaves LeavesAll) (SwitchLeaves LeavesAll) h c
 abbrev pub Commanded : Hosts → Command → Hosts → Type 0
 Commanded h c h' = Controlled (declines h c) Leaves h c h'
 
--- and so do the hosts
+-- the hosts decline no command
 pub declines_none : (h : Hosts) (c : Command) → declines h c ≡ None
 declines_none h (First On) = refl
 declines_none h (First Off) = refl

@@ -31,7 +31,7 @@ turn_by On = Open
 turn_by Off = Shut
 turn_by (Below c) = Open
 
--- whether a command opens or shuts a book
+-- whether a command opens or shuts a book; one for the book below a switch is told as opening
 abbrev pub turn_of : Command → Turn
 turn_of (First one) = turn_by one
 turn_of (Second one) = turn_by one

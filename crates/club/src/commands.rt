@@ -51,7 +51,7 @@ pub fn command_for(turn: Turn, book: Book) -> Command
     }
 }
 
-/// Whether a command opens or shuts a book.
+/// Whether a command opens or shuts a book. One for the book below a switch, which no journal has, is told as opening.
 pub fn turn_of(command: &Command) -> Turn
     ensures { result ≡ turn_of command.now }
 {

@@ -1,5 +1,5 @@
 -- A competition as a world of the model, and what an event or a list of events carries on. Assumes nothing.
-use Rattle.std.specs.Prelude.{◌≡◌, ℕ, ◌<◌, Bool, true, List, [], ◌∷◌, ◌++◌, length, slice_index_or, None, Some, Option, Result}
+use Rattle.std.specs.Prelude.{◌≡◌, ℕ, ◌<◌, ◌≤◌, Bool, true, List, [], ◌∷◌, ◌++◌, length, slice_index_or, None, Some, Option, Result}
 use Rattle.values.specs.declared.Answer.{Answer}
 use Rattle.values.specs.declared.Fault.{Fault}
 use Rattle.std.specs.Bool.{⊤}
@@ -91,6 +91,6 @@ pub record RanOut {C : Type 0} (es : List (HostEvent C)) (places taken : ℕ) : 
 
 -- why no more events of a list were taken than so many: there were no more, or no more places to tell of them, or memory ran out
 abbrev pub Ended : {C : Type 0} → End → List (HostEvent C) → ℕ → ℕ → Type 0
-Ended Events es places taken = taken ≡ length es
+Ended Events es places taken = (taken ≡ length es) × (taken ≤ places)
 Ended Places es places taken = (taken ≡ places) × (places < length es)
 Ended (Memory e) es places taken = RanOut es places taken

@@ -14,8 +14,8 @@ use Rattle.sheet.specs.Asked.{unless}
 use Rattle.sheet.specs.Calls.{Comes}
 use Rattle.sheet.specs.Tickets.{Aborts}
 use Rattle.sheet.specs.declared.ticket.Ticket.{Ticket}
-use Rattle.tickets.specs.Endings.{Holds, Through, Ends}
-use Rattle.tickets.specs.Rollbacks.{Outcome, ComesTo}
+use Rattle.tickets.specs.Endings.{Holds, Through, RollbackEnds}
+use Rattle.tickets.specs.Rollbacks.{CameTo, ComesTo}
 use Rattle.tickets.proofs.Undoing.{made_then}
 
 -- ── accepted or declined ──
@@ -48,20 +48,20 @@ resume_declined (Some f) n told = cc
 
 -- ── and then the rest ──
 
-pub comes_declined : (f : Option Fault) {g : Fault} (s : Sheet) (v : View) (o : Outcome)
+pub comes_declined : (f : Option Fault) {g : Fault} (s : Sheet) (v : View) (o : CameTo)
     {r : Result (Unit {0}) Fault} {s' : Sheet} {v' : View}
     → f ≡ Some g → r ≡ Err g → s' ≡ s → v' ≡ v → ComesTo (after f (f, s, v) o) r s' v'
 comes_declined f {g} s v o {r} {s'} {v'} is answers sheet host =
     subst (λ f. ComesTo (after f (f, s, v) o) r s' v') (sym is) (record { answers = answers; sheet = sheet; host = host })
 
 pub ends_declined : (f : Option Fault) {g : Fault} (s begun : Sheet) {s' : Sheet} {r : Result (Unit {0}) Fault}
-    → f ≡ Some g → r ≡ Err g → s' ≡ s → Ends f s begun r s'
-ends_declined f s begun {s'} {r} is answers same = subst (λ f. Ends f s begun r s') (sym is) (answers, same)
+    → f ≡ Some g → r ≡ Err g → s' ≡ s → RollbackEnds f s begun r s'
+ends_declined f s begun {s'} {r} is answers same = subst (λ f. RollbackEnds f s begun r s') (sym is) (answers, same)
 
 pub ends_through : (f : Option Fault) (s begun started s' : Sheet) (r : Result (Unit {0}) Fault)
-    → f ≡ None → started ≡ begun → Through started r s' → Ends f s begun r s'
+    → f ≡ None → started ≡ begun → Through started r s' → RollbackEnds f s begun r s'
 ends_through f s begun started s' r passed same h =
-    subst (λ f. Ends f s begun r s') (sym passed) (subst (λ b. Through b r s') same h)
+    subst (λ f. RollbackEnds f s begun r s') (sym passed) (subst (λ b. Through b r s') same h)
 
 module _ {X : Type 0} (view : X → View) (makes : X → Call → Result (Unit {0}) Fault → X → Type 0) {x : X} (f : Option Fault) where
   pub none_made : {g : Fault} (bs : List Call) → f ≡ Some g → Made view makes x (unless f bs) x

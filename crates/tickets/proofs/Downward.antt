@@ -19,7 +19,7 @@ use Rattle.model.specs.Rows.{marked}
 use Rattle.model.specs.Sheet.{Sheet, with_rows}
 use Rattle.model.proofs.Accepted.{undo_due}
 use Rattle.model.proofs.Basics.{some_none, put_same, put_other, eq_same_state}
-use Rattle.tickets.specs.Rollbacks.{Outcome, undone, stops, undone_down}
+use Rattle.tickets.specs.Rollbacks.{CameTo, undone, stops, undone_down}
 
 -- ── a fault that says that a row is not due is of a row that is not due ──
 
@@ -113,10 +113,10 @@ turned_other n s s' not_due h = record {
 }
 
 module _ (t : TicketNumber) (column line : ℕ) where
-  abbrev down : ℕ → Sheet → View → Outcome
+  abbrev down : ℕ → Sheet → View → CameTo
   down n s v = undone_down n s v t column line
 
-  step : (n : ℕ) (s : Sheet) (v : View) (o : Outcome) → undone s v t (suc n) column line ≡ o
+  step : (n : ℕ) (s : Sheet) (v : View) (o : CameTo) → undone s v t (suc n) column line ≡ o
       → down (suc n) s v ≡ cond (stops o.0) o (down n o.1 o.2)
   unfolding undone_down
   step n s v o is = ap (λ o. cond (stops o.0) o (down n o.1 o.2)) is

@@ -14,7 +14,7 @@ use Rattle.sheet.specs.Asked.{undo_asks}
 use Rattle.sheet.specs.Tickets.{Undoes}
 use Rattle.sheet.specs.declared.ticket.Ticket.{Ticket}
 use Rattle.tickets.specs.Endings.{Holds}
-use Rattle.tickets.specs.Rollbacks.{Outcome, ComesTo, undone, stops, undone_down, undone_down_asks}
+use Rattle.tickets.specs.Rollbacks.{CameTo, ComesTo, undone, stops, undone_down, undone_down_asks}
 
 -- ── calls after calls ──
 
@@ -35,7 +35,7 @@ fault_told : (f : Option Fault) (r : Result (Unit {0}) Fault) → r ≡ answer f
 fault_told None r e = ap fault_in (sym e)
 fault_told (Some f) r e = ap fault_in (sym e)
 
-pub same_outcome : {o o' : Outcome} {r : Result (Unit {0}) Fault} {s' : Sheet} {v' : View} → o ≡ o' → ComesTo o' r s' v' → ComesTo o r s' v'
+pub same_outcome : {o o' : CameTo} {r : Result (Unit {0}) Fault} {s' : Sheet} {v' : View} → o ≡ o' → ComesTo o' r s' v' → ComesTo o r s' v'
 same_outcome {r = r} {s' = s'} {v' = v'} same h = subst (λ o. ComesTo o r s' v') (sym same) h
 
 -- a ticket of the rollback under way is so after an undo, no matter whether that changed a row or was declined
@@ -55,10 +55,10 @@ module _ (s : Sheet) (v : View) (t : TicketNumber) (row column line : ℕ) where
   all_made view makes x end = subst (λ k. Made view makes x (undone_down_asks k s v t column line) x) (sym end) none
 
   -- what the undo of the row comes to, and what is still to come after it
-  abbrev one : Outcome
+  abbrev one : CameTo
   one = undone s v t row column line
 
-  abbrev rest : Outcome
+  abbrev rest : CameTo
   rest = undone_down (row - 1) one.1 one.2 t column line
 
   abbrev rest_asks : List Call

@@ -30,9 +30,9 @@ Through s (Err f) s' = s'.phase ≡ Parked
 
 -- By the fault of the call that is to bring a rollback under way: where it is declined, that is the answer, and the sheet is as it
 -- was; else the rollback, under way on the sheet `begun`, is carried through
-abbrev pub Ends : Option Fault → Sheet → Sheet → Result (Unit {0}) Fault → Sheet → Type 0
-Ends None s begun r s' = Through begun r s'
-Ends (Some f) s begun r s' = (r ≡ Err f) × (s' ≡ s)
+abbrev pub RollbackEnds : Option Fault → Sheet → Sheet → Result (Unit {0}) Fault → Sheet → Type 0
+RollbackEnds None s begun r s' = Through begun r s'
+RollbackEnds (Some f) s begun r s' = (r ≡ Err f) × (s' ≡ s)
 
 -- memory that undos were lent: the first bytes of the column are zero, where it is long enough; the numbers of the line are free, but
 -- kept where the memory is too short; and all else is as it was

@@ -20,11 +20,11 @@ use Rattle.model.specs.Sheet.{Sheet, aborted, ticket_of, with_phase, with_rows}
 use Rattle.sheet.specs.Asked.{abort_asks, undo_asks, unless}
 
 -- what calls come to: the fault that stopped them, if one did, and then the sheet and what the host shows
-abbrev pub Outcome : Type 0
-Outcome = Option Fault × Sheet × View
+abbrev pub CameTo : Type 0
+CameTo = Option Fault × Sheet × View
 
 -- they answered so, and left this
-pub record ComesTo (o : Outcome) (r : Result (Unit {0}) Fault) (s' : Sheet) (v' : View) : Type 0 where
+pub record ComesTo (o : CameTo) (r : Result (Unit {0}) Fault) (s' : Sheet) (v' : View) : Type 0 where
   pub answers : r ≡ answer o.0 tt
   pub sheet : s' ≡ o.1
   pub host : v' ≡ o.2
@@ -32,7 +32,7 @@ pub record ComesTo (o : Outcome) (r : Result (Unit {0}) Fault) (s' : Sheet) (v' 
 -- ── rows undone one after another, in memory whose column and line have these lengths ──
 
 -- one row: its undo may have a fault, and changes nothing then
-abbrev pub undone : Sheet → View → TicketNumber → ℕ → ℕ → ℕ → Outcome
+abbrev pub undone : Sheet → View → TicketNumber → ℕ → ℕ → ℕ → CameTo
 undone s v t k column line =
     let f = undo_fault s v t k column line in
     (f, after f s (with_rows s (marked s.rows k Undone)), after f v (moved Reversed v (key_of k)))
@@ -43,13 +43,13 @@ stops None = false
 stops (Some f) = not (cause_number f.cause == cause_number NoSuch)
 
 -- rows n down to 1 in turn, as far as no fault stops them
-unfoldable pub undone_down : ℕ → Sheet → View → TicketNumber → ℕ → ℕ → Outcome
+unfoldable pub undone_down : ℕ → Sheet → View → TicketNumber → ℕ → ℕ → CameTo
 undone_down zero s v t column line = (None, s, v)
 undone_down (suc n) s v t column line =
     let o = undone s v t (suc n) column line in
     cond (stops o.0) o (undone_down n o.1 o.2 t column line)
 
--- what the host is asked meanwhile: to undo each due row
+-- what the host is asked meanwhile: to undo each due row as far as no fault stops them; it is asked too for the undo that it declines
 unfoldable pub undone_down_asks : ℕ → Sheet → View → TicketNumber → ℕ → ℕ → List Call
 undone_down_asks zero s v t column line = []
 undone_down_asks (suc n) s v t column line =
@@ -64,7 +64,7 @@ end_phase None = Forward
 end_phase (Some f) = Parked
 
 -- all rows that there can be, from the highest down, and then the end
-abbrev pub carried : Sheet → View → ℕ → ℕ → Outcome
+abbrev pub carried : Sheet → View → ℕ → ℕ → CameTo
 carried s v column line =
     let (f, s', v') = undone_down rows_most s v (ticket_of s) column line in
     (f, with_phase s' (end_phase f), v')
@@ -75,7 +75,7 @@ carried_asks s v column line = undone_down_asks rows_most s v (ticket_of s) colu
 -- ── whole rollbacks ──
 
 -- a complete abort, carried through; where it is declined, that is the fault, and nothing changes
-abbrev pub rolled_back : Chart → Sheet → View → ℕ → ℕ → Outcome
+abbrev pub rolled_back : Chart → Sheet → View → ℕ → ℕ → CameTo
 rolled_back c s v column line =
     let f = abort_fault s v Complete column line in
     after f (f, s, v) (carried (aborted c s Complete) (all_dropped s.rows v) column line)
@@ -87,7 +87,7 @@ rolled_back_asks c s v column line =
     ++ unless (abort_fault s v Complete column line) (carried_asks (aborted c s Complete) (all_dropped s.rows v) column line)
 
 -- a parked rollback taken up again, and carried through; where resume is declined, that is the fault, and nothing changes
-abbrev pub carried_on : Sheet → View → ℕ → ℕ → Outcome
+abbrev pub carried_on : Sheet → View → ℕ → ℕ → CameTo
 carried_on s v column line =
     let f = resume_fault s in
     after f (f, s, v) (carried (with_phase s Undoing) v column line)

@@ -12,7 +12,7 @@ ghost use Rattle.model.specs.Sheet.{aborted, with_phase};
 ghost use Rattle.sheet.specs.SheetOf.{sheet_of, chart_of};
 ghost use Rattle.tickets.specs.Rollbacks.{ComesTo, undone_down, undone_down_asks, carried, carried_asks};
 ghost use Rattle.tickets.specs.Rollbacks.{rolled_back, rolled_back_asks, carried_on, carried_on_asks};
-ghost use Rattle.tickets.specs.Endings.{Holds, Through, Ends, Scratches};
+ghost use Rattle.tickets.specs.Endings.{Holds, Through, RollbackEnds, Scratches};
 
 use host::{Host, ROWS};
 use sheet::{Memory, Sheet, Ticket};
@@ -72,7 +72,7 @@ fn carry_through<X: Host>(
     Ok(())
 }
 
-/// Takes all committed rows back, and finishes. Where a row cannot be undone the rollback is parked.
+/// Rolls everything back: drops what runs, undoes each due row, and finishes. Where a row cannot be undone the rollback is parked.
 pub fn roll_back_all<X: Host>(
     sheet: &mut Sheet,
     host: &mut X,
@@ -80,7 +80,7 @@ pub fn roll_back_all<X: Host>(
 ) -> Result<(), Fault>
     ensures comes { ComesTo (rolled_back (chart_of sheet.old) (sheet_of sheet.old) (X.Host.view host.old)
         (vec_len memory.old.column) (vec_len memory.old.line)) result (sheet_of sheet.new) (X.Host.view host.new) }
-    ensures ends { Ends (abort_fault (sheet_of sheet.old) (X.Host.view host.old) Complete (vec_len memory.old.column)
+    ensures ends { RollbackEnds (abort_fault (sheet_of sheet.old) (X.Host.view host.old) Complete (vec_len memory.old.column)
         (vec_len memory.old.line)) (sheet_of sheet.old) (aborted (chart_of sheet.old) (sheet_of sheet.old) Complete)
         result (sheet_of sheet.new) }
     ensures none_live { IfOk result (λ u. (k : ℕ) → live ((sheet_of sheet.new).rows.state k) ≡ false) }
@@ -99,7 +99,7 @@ pub fn roll_back_all<X: Host>(
 pub fn carry_on<X: Host>(sheet: &mut Sheet, host: &mut X, memory: &mut Memory) -> Result<(), Fault>
     ensures comes { ComesTo (carried_on (sheet_of sheet.old) (X.Host.view host.old) (vec_len memory.old.column)
         (vec_len memory.old.line)) result (sheet_of sheet.new) (X.Host.view host.new) }
-    ensures ends { Ends (resume_fault (sheet_of sheet.old)) (sheet_of sheet.old) (with_phase (sheet_of sheet.old) Undoing)
+    ensures ends { RollbackEnds (resume_fault (sheet_of sheet.old)) (sheet_of sheet.old) (with_phase (sheet_of sheet.old) Undoing)
         result (sheet_of sheet.new) }
     ensures made { Made X.Host.view X.Host.makes host.old (carried_on_asks (sheet_of sheet.old) (X.Host.view host.old)
         (vec_len memory.old.column) (vec_len memory.old.line)) host.new }
