@@ -72,7 +72,8 @@ fn carry_through<X: Host>(
     Ok(())
 }
 
-/// Rolls everything back: drops what runs, undoes each due row, and finishes. Where a row cannot be undone the rollback is parked.
+/// Rolls everything back: drops what runs, undoes each due row, and finishes. Where a row cannot be undone the rollback is parked,
+/// and that row's fault is the answer; where the abort is declined, sheet and host stay as they are.
 pub fn roll_back_all<X: Host>(
     sheet: &mut Sheet,
     host: &mut X,
@@ -95,7 +96,7 @@ pub fn roll_back_all<X: Host>(
     carry_through(sheet, host, ticket, memory)
 }
 
-/// Takes a parked rollback up again, and carries it on in the same way.
+/// Takes a parked rollback up again, and carries it through in the same way.
 pub fn carry_on<X: Host>(sheet: &mut Sheet, host: &mut X, memory: &mut Memory) -> Result<(), Fault>
     ensures comes { ComesTo (carried_on (sheet_of sheet.old) (X.Host.view host.old) (vec_len memory.old.column)
         (vec_len memory.old.line)) result (sheet_of sheet.new) (X.Host.view host.new) }
