@@ -10,7 +10,7 @@ use Rattle.model.specs.Search.{has}
 use Rattle.model.specs.Sheets.{Lower}
 use Rattle.rows.specs.declared.row.Row.{Row}
 use Rattle.rows.specs.Arrows.{Drawn, forth, back}
-use Rattle.rows.specs.Columns.{columns, preds_of, Positive}
+use Rattle.rows.specs.Columns.{columns, listed, preds_of, Positive}
 use Rattle.rows.proofs.Columns.{row_past}
 use Rattle.rows.proofs.Leasts.{least_like}
 use Rattle.rows.proofs.Lists.{has_kept}
@@ -41,7 +41,7 @@ least_drawn n arrow joins j after o h =
 module _ (rows : List Row) (lower : Lower (preds_of rows)) (positive : Positive (preds_of rows)) where
   -- only rows have predecessors
   pub no_preds : (k : ℕ) → length rows < k → preds_of rows k ≡ []
-  no_preds k h = sym (ap (λ r. r.predecessors.items) (row_past rows k (inr h)))
+  no_preds k h = sym (ap (λ r. listed r.predecessors) (row_past rows k (inr h)))
 
   pub joins_forth : Joins (length rows) (forth (preds_of rows))
   joins_forth j k a =

@@ -17,8 +17,8 @@ use Rattle.model.specs.Rows.{marked, added}
 use Rattle.model.specs.Sheets.{Lower}
 use Rattle.model.proofs.Basics.{put_all}
 use Rattle.std.proofs.lemmas.Bool.{eqb-true}
-use Rattle.arrayvec.specs.ArrayVec.{ArrayVec}
-use Rattle.rows.specs.Columns.{no_row, numbered, row_at, preds_of, steps_of, columns, Positive}
+use Rattle.rows.specs.declared.row.Predecessors.{Predecessors}
+use Rattle.rows.specs.Columns.{no_row, listed, numbered, row_at, preds_of, steps_of, columns, Positive}
 
 pub row_past : (rows : List Row) (k : ℕ) → (k ≡ 0) ⊎ (length rows < k) → no_row ≡ row_at rows k
 row_past rows k o = past no_row rows k o
@@ -89,7 +89,7 @@ module _ (rows : List Row) (k : ℕ) (y : Row) (n : ℕ) (low : 0 < k) (high : k
   stays f e = kept rows k y (rolled_by y n) low high is f e
 
   pub preds_rolled : preds_of rolled_rows ≡ preds_of rows
-  preds_rolled = stays (λ r. r.predecessors.items) refl
+  preds_rolled = stays (λ r. listed r.predecessors) refl
 
   pub steps_rolled : steps_of rolled_rows ≡ steps_of rows
   steps_rolled = stays (λ r. r.step) refl
@@ -116,7 +116,7 @@ module _ (rows : List Row) (k : ℕ) (y : Row) (to : RowState) (low : 0 < k) (hi
 
   -- the predecessors stay
   pub preds_marked : preds_of (set rows (k - 1) (turned y to)) ≡ preds_of rows
-  preds_marked = stays_marked (λ r. r.predecessors.items) refl
+  preds_marked = stays_marked (λ r. listed r.predecessors) refl
 
   pub steps_marked : steps_of (set rows (k - 1) (turned y to)) ≡ steps_of rows
   steps_marked = stays_marked (λ r. r.step) refl
@@ -136,11 +136,11 @@ module _ (rows : List Row) (k : ℕ) (y : Row) (to : RowState) (low : 0 < k) (hi
   pub rolled_marked : ◌≡◌ {A = ℕ → ℕ} (λ j. (row_at (set rows (k - 1) (turned y to)) j).rolled) (λ j. (row_at rows j).rolled)
   rolled_marked = stays_marked (λ r. r.rolled) refl
 
-abbrev pub opened : ℕ → ArrayVec ℕ → Entry → Row
+abbrev pub opened : ℕ → Predecessors → Entry → Row
 opened step ps e = record { step = step; predecessors = ps; entry = e; state = Running; rolled = 0 }
 
 -- one row added
-module _ (rows : List Row) (step : ℕ) (ps : ArrayVec ℕ) (fs : List ℕ) (e : Entry) (is : ps.items ≡ fs) where
+module _ (rows : List Row) (step : ℕ) (ps : Predecessors) (fs : List ℕ) (e : Entry) (is : listed ps ≡ fs) where
   abbrev pub more : List Row
   more = rows ++ opened step ps e ∷ []
 
@@ -148,7 +148,7 @@ module _ (rows : List Row) (step : ℕ) (ps : ArrayVec ℕ) (fs : List ℕ) (e :
   grown f = ap (λ g j. f (g j)) (row_push rows (opened step ps e)) ∙ column_put f (row_at rows) (length rows + 1) (opened step ps e)
 
   pub preds_grown : preds_of more ≡ at_put (preds_of rows) (length rows + 1) fs
-  preds_grown = grown (λ r. r.predecessors.items) ∙ ap (at_put (preds_of rows) (length rows + 1)) is
+  preds_grown = grown (λ r. listed r.predecessors) ∙ ap (at_put (preds_of rows) (length rows + 1)) is
 
   pub steps_grown : steps_of more ≡ at_put (steps_of rows) (length rows + 1) step
   steps_grown = grown (λ r. r.step)

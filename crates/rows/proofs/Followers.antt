@@ -11,7 +11,7 @@ use Rattle.rowset.proofs.Members.{none_in_none}
 use Rattle.rows.specs.declared.row.Row.{Row}
 use Rattle.rows.specs.declared.table.Sets.{Sets}
 use Rattle.rows.specs.Highest.{has_higher}
-use Rattle.rows.specs.Columns.{no_row, preds_of, steps_of, Positive}
+use Rattle.rows.specs.Columns.{no_row, listed, preds_of, steps_of, Positive}
 use Rattle.rows.specs.Followers.{HaveFollowers, Told, Tell}
 use Rattle.rows.specs.States.{no_set, set_at, HaveStates}
 use Rattle.rows.proofs.Arrows.{no_preds, joins_forth}
@@ -129,4 +129,4 @@ nowhere xs k e = elim (cases_eq k 0) [ inl z ↦ inl z | inr nz ↦ inr (omega (
 pub no_followers : (sets : List RowSet) (rows : List Row) → sets ≡ [] → rows ≡ [] → HaveFollowers sets (preds_of rows)
 no_followers sets rows e f k v =
     ap (λ s. contains s v) (sym (past no_set sets k (nowhere sets k e))) ∙ none_in_none v
-    ∙ ap (λ r. has k r.predecessors.items) (past no_row rows v (nowhere rows v f))
+    ∙ ap (λ r. has k (listed r.predecessors)) (past no_row rows v (nowhere rows v f))

@@ -1,12 +1,20 @@
 -- A list of rows as the model's columns. Assumes nothing.
-use Rattle.std.specs.Prelude.{◌≡◌, ℕ, ◌-◌, ◌≤◌, Bool, true, cond, not, ◌&&◌, List, [], length, None, Option, ◌==◌, nat_le, nat_lt, slice_get, slice_index_or}
+use Rattle.std.specs.Prelude.{◌≡◌, ℕ, ◌-◌, ◌≤◌, Bool, true, cond, not, ◌&&◌, List, length, min, take, replicate, None, Option, ◌==◌, nat_le, nat_lt, slice_get, slice_index_or}
 use Rattle.values.specs.declared.RowState.TheVariants.{Absent}
 use Rattle.model.specs.Search.{any, has}
 use Rattle.model.specs.Rows.{Rows, no_entry, is_row}
+use Rattle.rows.specs.declared.row.Predecessors.{Predecessors}
 use Rattle.rows.specs.declared.row.Row.{Row}
 
+-- the numbers of a row's predecessors
+abbrev pub listed : Predecessors → List ℕ
+listed p = take (min p.count 8) p.numbers
+
+abbrev pub no_predecessors : Predecessors
+no_predecessors = record { numbers = replicate 8 0; count = 0 }
+
 abbrev pub no_row : Row
-no_row = record { step = 0; predecessors = record { items = [] }; entry = no_entry; state = Absent; rolled = 0 }
+no_row = record { step = 0; predecessors = no_predecessors; entry = no_entry; state = Absent; rolled = 0 }
 
 -- item k of a list, counted from 1
 abbrev pub numbered : {X : Type 0} → List X → ℕ → Option X
@@ -22,7 +30,7 @@ row_at rows k = cond (k == 0) no_row (slice_index_or rows (k - 1) no_row)
 
 -- the predecessors of a row, by its number
 abbrev pub preds_of : List Row → ℕ → List ℕ
-preds_of rows k = (row_at rows k).predecessors.items
+preds_of rows k = listed (row_at rows k).predecessors
 
 -- the step of a row, by its number
 abbrev pub steps_of : List Row → ℕ → ℕ

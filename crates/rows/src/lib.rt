@@ -9,6 +9,6 @@ mod steps;
 mod struck;
 mod table;
 
-pub use row::{Row, first_eight};
+pub use row::{Predecessors, Row, first_eight};
 pub use steps::step_at;
 pub use table::{RowTable, Unfit};

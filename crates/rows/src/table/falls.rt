@@ -33,8 +33,8 @@ impl RowTable {
         !step.counterpart || !step.private && self.entry(row).number.is_none()
     }
 
-    // Whether a row runs or is committed.
-    fn is_live(&self, row: u16) -> bool
+    /// Whether a row is live: it runs or is committed.
+    pub fn is_live(&self, row: u16) -> bool
         ensures { result ≡ live ((rows_of self.now).state row) }
     {
         matches!(self.state(row), RowState::Running | RowState::Committed)

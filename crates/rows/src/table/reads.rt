@@ -1,7 +1,7 @@
 // What a row holds, by its number.
 ghost use Rattle.std.specs.Prelude.{◌≡◌, ◌≤◌, length, MatchOption};
 ghost use Rattle.rows.specs.Columns.{no_row, row_at};
-ghost use Rattle.rows.specs.Tables.{rows_of};
+ghost use Rattle.rows.specs.Tables.{rows_of, rolled_of};
 
 use super::RowTable;
 use crate::counted::numbered;
@@ -51,6 +51,13 @@ impl RowTable {
         ensures { result ≡ (rows_of self.now).entry number }
     {
         self.get(number).map_or(NO_ENTRY, |row| row.entry)
+    }
+
+    /// The rollback that dropped or struck a row; 0 if none did, and where there is no such row.
+    pub fn rolled(&self, number: u16) -> u16
+        ensures { result ≡ rolled_of self.now number }
+    {
+        self.get(number).map_or(0, |row| row.rolled)
     }
 
     /// The rows that a row follows by one arrow; none where there is no such row.

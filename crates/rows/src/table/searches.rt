@@ -8,7 +8,6 @@ ghost use Rattle.model.specs.Rows.{in_state, live, any_live};
 ghost use Rattle.model.specs.Calls.{lowest_row};
 ghost use Rattle.rowset.specs.Members.{contains};
 ghost use Rattle.rows.specs.Tables.{rows_of};
-ghost use Rattle.rows.specs.States.{row_in};
 
 use super::RowTable;
 use crate::counted::numbered;
@@ -39,10 +38,13 @@ impl RowTable {
         self.live().next_above(0).is_some()
     }
 
-    /// The lowest row in that state.
+    /// The lowest number in that state: a row, or 0 for the state absent, in which each number is that is no row.
     pub fn lowest(&self, state: RowState) -> Option<u16>
-        ensures { result ≡ lowest_row (rows_of self.now) (row_in (rows_of self.now) state) }
+        ensures { result ≡ lowest_row (rows_of self.now) (in_state (rows_of self.now) state) }
     {
+        if state == RowState::Absent {
+            return Some(0);
+        }
         self.rows_in(state).next_above(0)
     }
 

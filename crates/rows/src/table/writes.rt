@@ -10,7 +10,7 @@ ghost use Rattle.rows.specs.Tables.{rows_of, rolled_of};
 
 use super::by_state::put_in;
 use super::{MOST_ROWS, RowTable, Sets, Unfit};
-use crate::row::{Row, first_eight};
+use crate::row::{Predecessors, Row};
 use rowset::RowSet;
 use std::alloc::{AllocError, Global};
 use values::{Entry, RowState};
@@ -94,7 +94,7 @@ impl RowTable {
         self.sets.followers.push_reserved(RowSet::new());
         self.rows.push_reserved(Row {
             step,
-            predecessors: first_eight(predecessors),
+            predecessors: Predecessors::new(predecessors),
             entry,
             state: RowState::Running,
             rolled: 0,

@@ -9,7 +9,7 @@ use Rattle.rowset.specs.declared.RowSet.{RowSet}
 use Rattle.rowset.specs.Members.{is_number, contains}
 use Rattle.rows.specs.declared.row.Row.{Row}
 use Rattle.model.specs.Sheets.{Lower}
-use Rattle.rows.specs.Columns.{fits, columns, preds_of, steps_of, row_at, Positive}
+use Rattle.rows.specs.Columns.{fits, columns, listed, preds_of, steps_of, row_at, Positive}
 use Rattle.rows.specs.Followers.{HaveFollowers}
 use Rattle.rows.specs.States.{set_at}
 use Rattle.rows.proofs.Columns.{row_past, columns_added, rolled_added, preds_grown, states_grown, steps_grown, lower_added, positive_added}
@@ -66,11 +66,11 @@ invariant_of-self c =
     let fs = c.args.predecessors.now in
     let f = fitting rows fs (sym c.if-not-fits.ensures) in
     let p = c.push_reserved-2.ensures in
-    let e : c.first_eight.result.items ≡ fs = c.first_eight.ensures ∙ take_all 8 fs f.few in
+    let e : listed c.new-2.result ≡ fs = c.new-2.ensures ∙ take_all 8 fs f.few in
     let sets = c.add_follower.new.followers in
     let q = c.push_reserved.ensures in
     let preds : preds_of c.push_reserved-2.new.self.items ≡ at_put (preds_of rows) (length rows + 1) fs =
-    ap preds_of p.items ∙ preds_grown rows c.args.step c.first_eight.result fs c.args.entry e in
+    ap preds_of p.items ∙ preds_grown rows c.args.step c.new-2.result fs c.args.entry e in
     let long : length sets ≡ length s.sets.followers.items = c.add_follower.ensures.len ∙ ap length c.deref_mut.ensures.value in
     let lent = with_items_is s.sets.followers sets (long ∙ sym s.sets.followers.ok.0) in
     let stored = q.items ∙ ap (λ (xs : List RowSet). xs ++ c.new.result ∷ []) lent in
@@ -95,14 +95,14 @@ invariant_of-self c =
         places = omega (arith, q.capacity, (told s.told).places);
         states = put_back rows _ (length rows + 1) Running s.sets.states _ (omega arith) (omega (arith, f.place))
             (ap {B = ℕ → RowState} (λ (xs : List Row) j. (row_at xs j).state) p.items
-            ∙ states_grown rows c.args.step c.first_eight.result fs c.args.entry e)
+            ∙ states_grown rows c.args.step c.new-2.result fs c.args.entry e)
             (λ st j. c.put_in.ensures st j
             ∙ ap (λ n. cond (same_state st Running && eqb j (n + 1)) (not (same_state st Absent) && is_number j)
             (contains (of_state s.sets.states st) j)) c.len-row.ensures)
             (none_there rows (length rows + 1) s.sets.states
             (sym (ap (λ r. same_state r.state Absent) (row_past rows (length rows + 1) (inr (omega arith))))) (told s.told).states);
         highest = highest_added rows _ c.args.step f.place longer
-            (ap {B = ℕ → ℕ} steps_of p.items ∙ steps_grown rows c.args.step c.first_eight.result fs c.args.entry e)
+            (ap {B = ℕ → ℕ} steps_of p.items ∙ steps_grown rows c.args.step c.new-2.result fs c.args.entry e)
             c.highest_of_others-highest.result _ c.highest_of_others-highest.ensures
             (λ k. c.insert.ensures k ∙ ap (λ n. contains c.highest_of_others-highest.result k || (eqb k (n + 1) && is_number k)) c.len-row.ensures);
       });
@@ -116,10 +116,10 @@ returns c =
     let ok = sym c.if-not-fits.ensures in
     let f = fitting rows fs ok in
     let p = c.push_reserved-2.ensures in
-    let e : c.first_eight.result.items ≡ fs = c.first_eight.ensures ∙ take_all 8 fs f.few in
+    let e : listed c.new-2.result ≡ fs = c.new-2.ensures ∙ take_all 8 fs f.few in
     record {
       fits = sym ok;
-      rows = ap columns p.items ∙ columns_added rows c.args.step c.first_eight.result fs c.args.entry e;
+      rows = ap columns p.items ∙ columns_added rows c.args.step c.new-2.result fs c.args.entry e;
       rolled = ap {B = ℕ → ℕ} (λ (xs : List Row) k. (row_at xs k).rolled) p.items
-          ∙ rolled_added rows c.args.step c.first_eight.result fs c.args.entry e;
+          ∙ rolled_added rows c.args.step c.new-2.result fs c.args.entry e;
     }
