@@ -44,7 +44,11 @@ fn asked_for(rt: &HostRuntime) -> anyhow::Result<Request> {
     let mut words = env::args(rt)?.skip(1);
     while let Some(word) = words.next() {
         match word.as_str() {
-            "--help" => request.help = true,
+            // The words behind it are not looked at.
+            "--help" => {
+                request.help = true;
+                return Ok(request);
+            }
             "--treasurer" => request.treasurer = true,
             "--bench" => request.replays = Some(number_of(words.next())?),
             option if option.starts_with('-') => return Err(anyhow!("this option is unknown")),
