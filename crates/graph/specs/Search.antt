@@ -1,5 +1,5 @@
 -- What holds inside a traversal, between one point and the next. `xs` is the column, `ws` the points that wait.
-use Rattle.std.specs.Prelude.{◌≡◌, ℕ, zero, suc, ◌+◌, ◌≤◌, cond, ◌⊎◌, List, ◌∷◌, length}
+use Rattle.std.specs.Prelude.{◌≡◌, ℕ, zero, suc, ◌+◌, ◌≤◌, cond, ◌⊎◌, List, [], ◌∷◌, ◌++◌, length, slice_set}
 use Rattle.graph.specs.Column.{marked, Marked, Plain, Kept}
 use Rattle.graph.specs.Reach.{Reached}
 
@@ -12,6 +12,14 @@ pub data In (k : ℕ) : List ℕ → Type 0 where
 abbrev pub unmarked : ℕ → List ℕ → ℕ
 unmarked zero xs = 0
 unmarked (suc n) xs = unmarked n xs + cond (marked xs (suc n)) 0 1
+
+-- the column once the point t is taken in: it is marked, if it was not
+abbrev pub column_with : List ℕ → ℕ → List ℕ
+column_with xs t = cond (marked xs t) xs (slice_set xs t 1)
+
+-- the points that wait then: t waits last, if it was not marked
+abbrev pub line_with : List ℕ → List ℕ → ℕ → List ℕ
+line_with xs ws t = cond (marked xs t) ws (ws ++ t ∷ [])
 
 -- what taking in points that each have From does, in a graph of n points
 pub record Grown (From : ℕ → Type 0) (n : ℕ) (xs ws xs' ws' : List ℕ) : Type 0 where

@@ -3,7 +3,7 @@ ghost use Rattle.std.specs.Prelude.{ℕ, ◌≡◌, ◌+◌, ◌<◌, ◌≤◌,
 ghost use Rattle.graph.specs.Column.{mark_count, marked};
 ghost use Rattle.graph.specs.Held.{held};
 ghost use Rattle.graph.specs.Reach.{Start, Explored};
-ghost use Rattle.graph.specs.Search.{unmarked};
+ghost use Rattle.graph.specs.Search.{unmarked, column_with, line_with};
 ghost use Rattle.graph.specs.Waiting.{waiting, places};
 
 use crate::marks::Marks;
@@ -30,7 +30,10 @@ impl Traversal<'_, '_, '_, '_> {
     /// Takes in the point `t`: marks it and has it wait, unless it is marked already.
     fn admit(&mut self, t: usize)
         requires { (1 ≤ t) × (t ≤ self.old.points) }
-        ensures { TakesIn (λ k. k ≡ t) self.old self.new }
+        ensures taken { TakesIn (λ k. k ≡ t) self.old self.new }
+        ensures column { held self.new.marks.now ≡ column_with (held self.old.marks.now) t }
+        ensures waiting { waiting self.new.queue.now
+            ≡ line_with (held self.old.marks.now) (waiting self.old.queue.now) t }
     {
         if self.marks.is_set(t) {
             return;

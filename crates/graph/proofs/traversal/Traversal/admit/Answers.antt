@@ -1,27 +1,29 @@
-use Rattle.std.proofs.Common.{ℕ, sym, refl, subst, arith}
-use Rattle.graph.specs.Column.{Marked}
-use Rattle.graph.specs.Held.{held}
-use Rattle.graph.proofs.Takings.{admitted}
+-- Each answer goes by what the column and the line are afterwards.
+use Rattle.std.proofs.Common.{◌<◌, length, sym, rules}
+use Rattle.graph.specs.Waiting.{waiting, places}
+use Rattle.graph.proofs.Takings.{place_free, wide_taken, room_taken, admitted}
 use Rattle.graph.proofs.traversal.Traversal.admit.Goals as goal
 
 pub invariant_of-self-2 : goal.invariant_of-self-2
 invariant_of-self-2 c =
     let s = c.args.self.now in
-    let grown = (admitted s c.args.t c.requires (sym c.if-is_set.ensures)
-    c.set.ensures.after c.push.ensures.test c.push.ensures.waiting).0 in
+    let new = sym c.if-is_set.ensures in
+    let free : length (waiting s.queue.now) < places s.queue.now = place_free s c.args.t c.requires new in
     record {
       few = s.few;
-      wide = omega (arith, s.wide, grown.kept.size);
-      room = omega (arith, s.room, grown.count, c.push.ensures.places);
+      wide = wide_taken s c.args.t c.requires new (search rules);
+      room = room_taken s c.args.t c.requires new (search rules) (search rules) (search rules);
     }
 
-pub returns : goal.returns
-returns c =
-    let P : ℕ → Type 0 = Marked (held c.set.new.self) in
-    let done = admitted c.args.self.now c.args.t c.requires (sym c.if-is_set.ensures)
-    c.set.ensures.after c.push.ensures.test c.push.ensures.waiting in
-    record {
-      grown = done.0;
-      all = λ k e. subst P (sym e) done.1;
-      same = record { points = refl; places = c.push.ensures.places; queue = refl; marks = refl; column = c.set.ensures.same };
-    }
+pub returns-clause-taken : goal.returns-clause-taken
+returns-clause-taken c =
+    let s = c.args.self.now in
+    let new = sym c.if-is_set.ensures in
+    let free : length (waiting s.queue.now) < places s.queue.now = place_free s c.args.t c.requires new in
+    admitted s _ c.args.t c.requires new (search rules) (search rules) (search rules)
+
+pub returns-clause-waiting : goal.returns-clause-waiting
+returns-clause-waiting c =
+    let q = c.args.self.now.queue.now in
+    let free : length (waiting q) < places q = place_free c.args.self.now c.args.t c.requires (sym c.if-is_set.ensures) in
+    search rules
