@@ -3,10 +3,12 @@ ghost use Rattle.std.specs.Prelude.{◌≡◌};
 ghost use Rattle.model.specs.Chart.{step_at};
 ghost use Rattle.model.specs.Rollback.{uncut};
 ghost use Rattle.model.specs.Rows.{is_savepoint};
+ghost use Rattle.rows.specs.Columns.{listed};
 ghost use Rattle.rows.specs.Steps.{steps_only};
 ghost use Rattle.rows.specs.Tables.{rows_of};
 
 use crate::counted::numbered;
+use crate::row::Predecessors;
 use crate::table::RowTable;
 use arrayvec::ArrayVec;
 use process::parts::Step;
@@ -40,16 +42,16 @@ impl RowTable {
     }
 
     /// The predecessors of a row that are no savepoints.
-    pub fn uncut(&self, steps: &[Step], row: u16) -> ArrayVec<u16, 8>
-        ensures { result.items ≡ uncut (steps_only steps.now) (rows_of self.now) row }
+    pub fn uncut(&self, steps: &[Step], row: u16) -> Predecessors
+        ensures { listed result ≡ uncut (steps_only steps.now) (rows_of self.now) row }
     {
-        let mut uncut = ArrayVec::new();
+        let mut uncut: ArrayVec<u16, 8> = ArrayVec::new();
         // a row has at most eight predecessors, so that each of these has a place
         for w in self.predecessors(row) {
             if !self.is_savepoint(steps, *w) {
                 uncut.push(*w);
             }
         }
-        uncut
+        Predecessors::new(&uncut)
     }
 }

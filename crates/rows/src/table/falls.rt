@@ -33,13 +33,6 @@ impl RowTable {
         !step.counterpart || !step.private && self.entry(row).number.is_none()
     }
 
-    /// Whether a row is live: it runs or is committed.
-    pub fn is_live(&self, row: u16) -> bool
-        ensures { result ≡ live ((rows_of self.now).state row) }
-    {
-        matches!(self.state(row), RowState::Running | RowState::Committed)
-    }
-
     // Gives a live row the number of a rollback.
     fn set_rolled(&mut self, row: u16, number: u16)
         ensures rows { rows_of self.new ≡ rows_of self.old }

@@ -22,6 +22,13 @@ impl RowTable {
         self.state(number) == state
     }
 
+    /// Whether a row is live: it runs or is committed.
+    pub fn is_live(&self, row: u16) -> bool
+        ensures { result ≡ live ((rows_of self.now).state row) }
+    {
+        matches!(self.state(row), RowState::Running | RowState::Committed)
+    }
+
     // The live rows: those that run and those that are committed.
     fn live(&self) -> RowSet
         ensures { (k : ℕ) → contains result k ≡ live ((rows_of self.now).state k) }
@@ -38,7 +45,7 @@ impl RowTable {
         self.live().next_above(0).is_some()
     }
 
-    /// The lowest number in that state: a row, or 0 for the state absent, in which each number is that is no row.
+    /// The lowest number in that state. Each number that is no row's is absent, so of that state it is 0.
     pub fn lowest(&self, state: RowState) -> Option<u16>
         ensures { result ≡ lowest_row (rows_of self.now) (in_state (rows_of self.now) state) }
     {

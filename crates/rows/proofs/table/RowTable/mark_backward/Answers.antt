@@ -22,7 +22,7 @@ returns c =
       test = done.test;
       answer = MatchResult-weaker c.walk.result done.answer
           (λ _ e. backward_marked (vec_items t.rows) t.lower t.positive chart c.args.f xs
-          (subst From (c.as_slice.ensures.value ∙ c.uncut-starts.ensures) e))
+          (subst From (c.as_slice.ensures ∙ c.uncut-starts.ensures) e))
           (λ _ e. e);
       loans = done.loans;
     }
